@@ -1,0 +1,5 @@
+pub mod Tail
+pub mod TailFields
+pub mod Columns
+pub mod Stages
+pub mod Sending
