@@ -1,0 +1,10 @@
+pub mod Told
+pub mod Decoding
+pub mod Pieces
+pub mod Runs
+pub mod Progress
+pub mod LineNumbers
+pub mod FrameLineLaws
+pub mod GrammarLaw
+pub mod FirstBadOctet
+pub mod HistoryLemmas

@@ -1,0 +1,10 @@
+pub mod Faults
+pub mod Octets
+pub mod Memory
+pub mod Buffering
+pub mod FrameLines
+pub mod Grammar
+pub mod Stages
+pub mod Reading
+pub mod Histories
+pub mod Advancing

@@ -1,0 +1,19 @@
+//! Sources and sinks of octets, and readers of lines over them.
+#![tactic(auto)]
+
+mod fault;
+mod frame_line;
+mod input_buffer;
+mod laws;
+mod lines;
+mod memory;
+mod slices;
+mod source;
+mod std_streams;
+
+pub use fault::{InFault, Kind};
+pub use laws::{the_first_bad_octet, the_form_of_a_line};
+pub use lines::{Line, Lines};
+pub use memory::{MemSink, MemSource};
+pub use source::{Failed, Sink, Source, put_all};
+pub use std_streams::{StdSink, StdSource};

@@ -1,0 +1,42 @@
+-- What is seen of the source and the sink of a run.
+use Rattle.std.specs.Prelude.{◌≡◌, ℕ, Bool, IsTrue, List, [], ◌++◌, Option, IfSome}
+use Rattle.pcs_io.specs.Faults.{Rose}
+use Rattle.pcs_io.specs.Octets.{TakesWhereTold}
+
+-- what the source has left, before and after, and whether its end was given; how often its reads failed; what the sink holds; how often its writes failed
+pub record Seen : Type 0 where
+  pub left_before : Option (List ℕ)
+  pub left_after : Option (List ℕ)
+  pub ended : Bool
+  pub reads_before : ℕ
+  pub reads_after : ℕ
+  pub held_before : Option (List ℕ)
+  pub held_after : Option (List ℕ)
+  pub writes_before : ℕ
+  pub writes_after : ℕ
+
+-- these octets were taken, where the source tells before and after
+abbrev pub Took : Seen → List ℕ → Type 0
+Took seen octets = TakesWhereTold seen.left_before seen.left_after octets
+
+-- these octets were taken, and the source has ended behind them
+pub record TookAll (seen : Seen) (octets : List ℕ) : Type 0 where
+  pub took : Took seen octets
+  pub nothing : IfSome seen.left_after (λ left. left ≡ [])
+  pub ended : IsTrue seen.ended
+
+-- this text was written, where the sink tells before and after
+abbrev pub Written : Seen → List ℕ → Type 0
+Written seen text = IfSome seen.held_before (λ before. IfSome seen.held_after (λ after. after ≡ before ++ text))
+
+-- nothing was taken or written
+pub record Untouched (seen : Seen) : Type 0 where
+  pub left : seen.left_after ≡ seen.left_before
+  pub held : seen.held_after ≡ seen.held_before
+
+-- a read or a write failed
+abbrev pub ReadFailed : Seen → Type 0
+ReadFailed seen = Rose seen.reads_before seen.reads_after
+
+abbrev pub WriteFailed : Seen → Type 0
+WriteFailed seen = Rose seen.writes_before seen.writes_after

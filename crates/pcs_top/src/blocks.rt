@@ -1,0 +1,134 @@
+// Frame lines become block lines.
+ghost use Rattle.std.specs.Prelude.{◌≡◌, ◌≤◌, ◌^◌, ◌++◌, [], ℕ, List, Option, length, IfOk, OnOk, OnErr, MatchResult};
+ghost use Rattle.pcs_io.specs.Faults.{HasCause};
+ghost use Rattle.pcs_io.specs.Octets.{AppendsFront};
+ghost use Rattle.pcs_io.specs.Histories.{Stands, opened};
+ghost use Rattle.pcs_top.specs.BlockCommand.{Blocks, Converts};
+ghost use Rattle.pcs_top.specs.Texts.{block_line, column_text};
+ghost use Rattle.pcs_top.specs.Writing.{Wrote};
+ghost use Rattle.mac_columns.specs.Columns.{columns_of};
+
+use crate::Status;
+use crate::output::Output;
+use block66::{Block, encode};
+use mac_columns::FrameColumns;
+use pcs_io::{Failed, Lines, Sink, Source};
+use std::alloc::{AllocError, Global};
+
+// The greatest number of octets that are taken.
+const LIMIT: u64 = 1 << 40;
+
+// The octets of a block line.
+const LINE: usize = 20;
+
+/// Reads frame lines and writes their block lines.
+pub fn blocks<R: Source, W: Sink>(alloc: Global, source: &mut R, sink: &mut W) -> Status
+    ensures { Blocks (record {
+      left_before = R.left source.old;
+      left_after = R.left source.new;
+      ended = R.ended source.new;
+      reads_before = R.faults source.old;
+      reads_after = R.faults source.new;
+      held_before = W.held sink.old;
+      held_after = W.held sink.new;
+      writes_before = W.faults sink.old;
+      writes_after = W.faults sink.new;
+    }) result }
+{
+    match open(alloc) {
+        Ok((mut lines, mut output)) => match convert(&mut lines, &mut output, source, sink) {
+            Ok(status) => status,
+            Err(Failed) => Status::WriteFault,
+        },
+        Err(_) => Status::NoMemory,
+    }
+}
+
+// All the memory that the command needs.
+fn open(alloc: Global) -> Result<(Lines, Output), AllocError>
+    ensures { IfOk result (λ all. Stands all.0 (opened (2 ^ 40)) × (all.1 ≡ [])) }
+{
+    Ok((Lines::open(alloc, LIMIT)?, Output::open(alloc)?))
+}
+
+// Reads lines and gathers their text, which is written before the source is read again and at the
+// end. `Failed` comes where a write failed.
+fn convert<R: Source, W: Sink>(
+    lines: &mut Lines,
+    output: &mut Output,
+    source: &mut R,
+    sink: &mut W,
+) -> Result<Status, Failed>
+    requires opened { Stands lines.old (opened (2 ^ 40)) }
+    requires empty { output.old ≡ [] }
+    ensures { Converts (record {
+      left_before = R.left source.old;
+      left_after = R.left source.new;
+      ended = R.ended source.new;
+      reads_before = R.faults source.old;
+      reads_after = R.faults source.new;
+      held_before = W.held sink.old;
+      held_after = W.held sink.new;
+      writes_before = W.faults sink.old;
+      writes_after = W.faults sink.new;
+    }) result }
+{
+    loop {
+        release(lines, output, sink)?;
+        match lines.next(source) {
+            Ok(Some(line)) => put_frame(output, sink, line.frame, line.gap)?,
+            Ok(None) => {
+                output.flush(sink)?;
+                return Ok(Status::Done);
+            }
+            Err(fault) => {
+                output.flush(sink)?;
+                return Ok(Status::from(fault));
+            }
+        }
+    }
+}
+
+// Writes what is gathered, unless a further line can be had without reading.
+fn release<W: Sink>(lines: &Lines, output: &mut Output, sink: &mut W) -> Result<(), Failed>
+    ensures ok { OnOk result ((start : Option (List ℕ)) (text : List ℕ) → Wrote start (W.held sink.old) text output.old → Wrote start (W.held sink.new) text output.new) }
+    ensures err { OnErr result ((start : Option (List ℕ)) (text : List ℕ) → Wrote start (W.held sink.old) text output.old → AppendsFront start (W.held sink.new) text) }
+    ensures cause { HasCause (W.faults sink.old) (W.faults sink.new) result }
+{
+    if lines.holds_line() {
+        return Ok(());
+    }
+    output.flush(sink)
+}
+
+// Puts the block lines of a frame and its gap.
+fn put_frame<W: Sink>(
+    output: &mut Output,
+    sink: &mut W,
+    frame: &[u8],
+    gap: u32,
+) -> Result<(), Failed>
+    requires { length frame.now ≤ 16384 }
+    ensures ok { OnOk result ((start : Option (List ℕ)) (text : List ℕ) → Wrote start (W.held sink.old) text output.old
+        → Wrote start (W.held sink.new) (text ++ column_text (columns_of frame.now gap)) output.new) }
+    ensures err { OnErr result ((start : Option (List ℕ)) (text : List ℕ) → Wrote start (W.held sink.old) text output.old
+        → AppendsFront start (W.held sink.new) (text ++ column_text (columns_of frame.now gap))) }
+    ensures cause { HasCause (W.faults sink.old) (W.faults sink.new) result }
+{
+    output.make_room(sink, LINE * (2 + frame.len() / 8 + gap as usize))?;
+    let mut columns = FrameColumns::new(frame, gap);
+    while let Some(column) = columns.next() {
+        output.put(sink, &line_of(&encode(&column)))?;
+    }
+    Ok(())
+}
+
+// The line of a block.
+fn line_of(block: &Block) -> [u8; LINE]
+    ensures { result ≡ block_line block.now }
+{
+    let mut line = [b'\n'; LINE];
+    line[..3].copy_from_slice(if block.control { b"10 " } else { b"01 " });
+    hex::encode_to_slice(block.payload.to_le_bytes(), &mut line[3..19]).unwrap();
+    line
+}
