@@ -138,7 +138,7 @@ sound octets g f r e =
 hexdigit : (x : ℕ) → is_hex_digit x ≡ true → is_ascii_hexdigit x ≡ true
 hexdigit x h = grind (arith, nat_tests)
 
-are-digits : (ds : List ℕ) → AllByRecursion (λ c. is_hex_digit c ≡ true) ds → AreDigits ds
+pub are-digits : (ds : List ℕ) → AllByRecursion (λ c. is_hex_digit c ≡ true) ds → AreDigits ds
 are-digits [] all = tt
 are-digits (x ∷ ds) all = (hexdigit x all.0, are-digits ds all.1)
 

@@ -7,4 +7,6 @@ pub mod LineNumbers
 pub mod FrameLineLaws
 pub mod GrammarLaw
 pub mod FirstBadOctet
+pub mod QuickLines
+pub mod Newlines
 pub mod HistoryLemmas

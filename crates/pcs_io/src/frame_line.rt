@@ -11,7 +11,8 @@ use crate::input_buffer::{Fill, InputBuffer};
 use crate::slices::append_front;
 use crate::{Failed, Kind, Source};
 
-const MAX_GAP: u32 = 1_000_000;
+/// The greatest gap.
+pub const MAX_GAP: u32 = 1_000_000;
 
 /// The greatest number of hexadecimal digits.
 pub const MAX_DIGITS: usize = 32_768;
@@ -212,8 +213,16 @@ fn run_of_digits(octets: &[u8]) -> usize
 {
     octets
         .iter()
-        .position(|octet| !octet.is_ascii_hexdigit())
+        .position(|octet| !is_hex_digit(*octet))
         .unwrap_or(octets.len())
+}
+
+// Whether the octet is a hexadecimal digit, without a branch on it.
+#[inline]
+fn is_hex_digit(octet: u8) -> bool
+    ensures { result ≡ is_ascii_hexdigit octet }
+{
+    octet.is_ascii_digit() | matches!(octet, b'a'..=b'f') | matches!(octet, b'A'..=b'F')
 }
 
 /// Decodes the digits into the first octets of the frame, and answers how many there are. `None`

@@ -7,6 +7,7 @@ mod input_buffer;
 mod laws;
 mod lines;
 mod memory;
+mod quick_line;
 mod slices;
 mod source;
 mod std_streams;

@@ -5,7 +5,9 @@ ghost use Rattle.pcs_io.specs.Advancing.{FindsLine};
 
 use crate::frame_line::{Found, MAX_DIGITS, decode_frame, read_line};
 use crate::input_buffer::InputBuffer;
+use crate::quick_line::quick_line;
 use crate::{InFault, Kind, Source};
+use memchr::memchr;
 use std::alloc::{AllocError, Global};
 use std::marker::Model;
 
@@ -96,7 +98,7 @@ impl Lines {
     pub fn holds_line(&self) -> bool
         ensures { IsTrue result ↔ Contains self.now.buffer.unused 10 }
     {
-        self.input.unused().contains(&b'\n')
+        memchr(b'\n', self.input.unused()).is_some()
     }
 
     // Reads the next line, and answers its gap.
@@ -141,7 +143,7 @@ struct Shape {
     used: usize,
 }
 
-// Reads the line after these many into the frame.
+// Reads the line after these many into the frame: at once where it is whole in the buffer.
 fn next_line<S: Source>(
     input: &mut InputBuffer,
     digits: &mut Vec<u8>,
@@ -161,6 +163,13 @@ fn next_line<S: Source>(
     ensures later { S.faults source.old ≤ S.faults source.new }
     ensures read { IsErrOf result InFault.Read → Rose (S.faults source.old) (S.faults source.new) }
 {
+    if let Some(line) = quick_line(input.unused(), frame) {
+        input.advance(line.octets);
+        return Ok(Some(Shape {
+            gap: line.gap,
+            used: line.used,
+        }));
+    }
     match read_line(input, digits, source) {
         Ok(Found::Whole(gap)) => match decode_frame(digits, frame) {
             Some(used) => Ok(Some(Shape { gap, used })),

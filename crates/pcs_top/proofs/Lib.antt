@@ -1,3 +1,4 @@
 pub mod WritingLemmas
 pub mod Columns
 pub mod Copying
+pub mod Rows

@@ -1,5 +1,5 @@
 use super::*;
-use pcs_io::{Kind, MemSink, MemSource};
+use pcs_io::{Kind, MemSink, MemSource, StdSink, StdSource};
 use std::alloc::{AllocError, Global};
 use std::test::Fail;
 
@@ -120,5 +120,26 @@ fn faults_end_the_run(rt: HostRuntime) -> Result<(), Fail> {
     );
     assert!(rt; status == Status::Usage(Cause::Words));
     assert!(rt; status.number() == 2);
+    Ok(())
+}
+
+// The adapters over a reader and a writer of std.
+#[test]
+fn over_std(rt: HostRuntime) -> Result<(), Fail> {
+    let alloc = rt.alloc();
+    let mut source = StdSource::new(b"1 010203\n".as_slice());
+    let mut written = Vec::new(alloc);
+    let mut sink = StdSink::new(&mut written);
+    let mut notes = MemSink::new(alloc, 0, 1, Vec::new(alloc))?;
+    let status = run(
+        alloc,
+        words(alloc, "blocks")?,
+        &mut source,
+        &mut sink,
+        &mut notes,
+    );
+    drop(sink);
+    assert!(rt; status == Status::Done);
+    assert_eq!(rt; written.as_slice(), ROWS[0].written);
     Ok(())
 }
