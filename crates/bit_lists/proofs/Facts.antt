@@ -1,17 +1,17 @@
 -- Lists of bits: length, places, cuts, joins.
 use Rattle.std.proofs.Common.{◌≡◌, ℕ, zero, suc, ◌+◌, ◌-◌, ◌*◌, ◌/◌, ◌%◌, ◌^◌, ◌<◌, ◌≤◌, List, [], ◌∷◌, ◌++◌, length, get_or, take, drop, refl, sym, ◌∙◌, ap, inl, inr, arith, add-zero, append-nil, suc-mul, suc-add, zero-add, eqb, eqb-true, eq-eqb, IsTrue, replicate, length-append, length-take, length-drop, get_or-take, get_or-drop}
 use Rattle.std.specs.Int.{bit_at}
-use Rattle.std.specs.Prelude.{bit_and, bit_or, bit_xor, ◌↔◌}
+use Rattle.std.specs.Prelude.{bit_and, bit_or, ◌↔◌}
 use Rattle.std.proofs.lemmas.Bool.{cases_lt}
 use Rattle.std.proofs.lemmas.List.{get_or_append_left, get_or-append_right}
 use Rattle.std.proofs.lemmas.List.FromFn.{length-map-range_with_len, get_or-map-range_with_len, fill_by_all}
 use Rattle.std.proofs.lemmas.Nat.{shr-shr, mul-le, and_mask, shr_high, pow_pos, or_shifted}
-use Rattle.std.proofs.lemmas.Nat.Bits.{bit_at_cat_low, bit_at_cat_high, bit_at_xor, bit_at_and, bit_at-lt, bit_at-zero, bit_at_lowest, shr_and_one, bit_at-suc, bit_at_ones, bit_at_above, same_from_bits_below}
+use Rattle.std.proofs.lemmas.Nat.Bits.{bit_at_cat_low, bit_at_cat_high, bit_at_and, bit_at-lt, bit_at-zero, bit_at_lowest, shr_and_one, bit_at-suc, bit_at_ones, bit_at_above, same_from_bits_below}
 use Rattle.std.proofs.Math.Nat.{pow-suc}
 use Rattle.std.proofs.Math.Seq.{take-append-add, drop-append-add}
 use Rattle.std.proofs.lemmas.List.{take_at, take_more, drop_at, drop-drop, take_all, get_or_past, take-append-drop, append_assoc}
 use Rattle.std.proofs.lemmas.List.Concat.{flat_map-append}
-use Rattle.bit_lists.specs.Bits.{bits, all_bits, number, cut, add_bits}
+use Rattle.bit_lists.specs.Bits.{bits, all_bits, number, cut}
 
 pub length-bits : (w n : ℕ) → length (bits w n) ≡ w
 unfolding bits
@@ -78,25 +78,6 @@ bits_cat a b lo hi h =
 
 pub bits-or_shl : (a b lo hi : ℕ) → lo < 2 ^ a → bits (a + b) (bit_or (hi * 2 ^ a) lo) ≡ bits a lo ++ bits b hi
 bits-or_shl a b lo hi h = ap (bits (a + b)) (or_shifted hi a lo h) ∙ bits_cat a b lo hi h
-
-pub length-add_bits : (xs ys : List ℕ) → length xs ≡ length ys → length (add_bits xs ys) ≡ length xs
-unfolding add_bits
-length-add_bits [] ys h = refl
-length-add_bits (x ∷ xs) [] h = absurd (omega arith)
-length-add_bits (x ∷ xs) (y ∷ ys) h = ap suc (length-add_bits xs ys (omega arith))
-
-pub get_or-add_bits : (xs ys : List ℕ) (i : ℕ) → length xs ≡ length ys → i < length xs → get_or (add_bits xs ys) i 0 ≡ (get_or xs i 0 + get_or ys i 0) % 2
-unfolding add_bits
-get_or-add_bits [] ys i h low = absurd (omega arith)
-get_or-add_bits (x ∷ xs) [] i h low = absurd (omega arith)
-get_or-add_bits (x ∷ xs) (y ∷ ys) zero h low = refl
-get_or-add_bits (x ∷ xs) (y ∷ ys) (suc i) h low = get_or-add_bits xs ys i (omega arith) (omega arith)
-
-pub bits-xor : (w a b : ℕ) → bits w (bit_xor a b) ≡ add_bits (bits w a) (bits w b)
-bits-xor w a b =
-    let same = length-bits w a ∙ sym (length-bits w b) in
-    sym (bits_by_places w (bit_xor a b) _ (length-add_bits (bits w a) (bits w b) same ∙ length-bits w a)
-    (λ i low. get_or-add_bits (bits w a) (bits w b) i same (omega (arith, length-bits w a)) ∙ rw (get_or-bits w a i 0 low, get_or-bits w b i 0 low) (sym (bit_at_xor a b i))))
 
 -- numbers below 2 ^ w are told by their bits
 pub same_from_lists : (w a b : ℕ) → a < 2 ^ w → b < 2 ^ w → bits w a ≡ bits w b → a ≡ b
