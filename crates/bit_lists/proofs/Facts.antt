@@ -112,7 +112,8 @@ length-all_bits w (x ∷ xs) = rw (all_bits-cons, length-append, length-bits, le
 pub get_or-all_bits : (w : ℕ) (xs : List ℕ) (i j : ℕ) → i < length xs → j < w → get_or (all_bits w xs) (i * w + j) 0 ≡ bit_at (get_or xs i 0) j
 get_or-all_bits w [] i j h low = absurd (omega arith)
 get_or-all_bits w (x ∷ xs) zero j h low =
-    rw all_bits-cons (ap (λ k. get_or (bits w x ++ all_bits w xs) k 0) (omega arith) ∙ get_or_append_left (bits w x) (all_bits w xs) 0 j (omega (arith, length-bits w x)) ∙ get_or-bits w x j 0 low)
+    rw all_bits-cons (ap (λ k. get_or (bits w x ++ all_bits w xs) k 0) (omega arith)
+    ∙ get_or_append_left (bits w x) (all_bits w xs) 0 j (omega (arith, length-bits w x)) ∙ get_or-bits w x j 0 low)
 get_or-all_bits w (x ∷ xs) (suc i) j h low =
     rw all_bits-cons (get_or-append_right (bits w x) (all_bits w xs) w (suc i * w + j) 0 (length-bits w x) (omega (arith, suc-mul i w))
     ∙ ap (λ k. get_or (all_bits w xs) k 0) (omega (arith, suc-mul i w)) ∙ get_or-all_bits w xs i j (omega arith) low)
@@ -167,12 +168,18 @@ unfolding cut
 cut-suc w count bs = refl
 
 -- what was joined is cut apart
-pub cut-all_bits : (w : ℕ) (xs : List ℕ) (count : ℕ) (rest : List ℕ) → ((k : ℕ) → k < length xs → get_or xs k 0 < 2 ^ w) → cut w (length xs + count) (all_bits w xs ++ rest) ≡ xs ++ cut w count rest
+pub cut-all_bits : (w : ℕ) (xs : List ℕ) (count : ℕ) (rest : List ℕ) → ((k : ℕ) → k < length xs → get_or xs k 0 < 2 ^ w)
+    → cut w (length xs + count) (all_bits w xs ++ rest) ≡ xs ++ cut w count rest
 cut-all_bits w [] count rest each = rw (zero-add count, all_bits-nil)
 cut-all_bits w (x ∷ xs) count rest each =
     rw (suc-add (length xs) count, all_bits-cons, append_assoc (bits w x) (all_bits w xs) rest)
     (cut-suc w (length xs + count) (bits w x ++ (all_bits w xs ++ rest))
-    ∙ rw (take_at (bits w x) (all_bits w xs ++ rest) w (length-bits w x), drop_at (bits w x) (all_bits w xs ++ rest) w (length-bits w x), number-bits w x (each 0 (omega arith)), cut-all_bits w xs count rest (λ k low. each (suc k) (omega arith))))
+    ∙ rw (
+      take_at (bits w x) (all_bits w xs ++ rest) w (length-bits w x),
+      drop_at (bits w x) (all_bits w xs ++ rest) w (length-bits w x),
+      number-bits w x (each 0 (omega arith)),
+      cut-all_bits w xs count rest (λ k low. each (suc k) (omega arith)),
+    ))
 
 pub below_2-take : (w : ℕ) (bs : List ℕ) → ((k : ℕ) → get_or bs k 0 < 2) → (k : ℕ) → get_or (take w bs) k 0 < 2
 below_2-take w bs each k =
@@ -192,7 +199,8 @@ all_bits-cut w zero (b ∷ bs) same each = absurd (omega arith)
 all_bits-cut w (suc count) bs same each =
     let size : length (take w bs) ≡ w = length-take w bs ∙ omega (arith, suc-mul count w) in
     let rest : length (drop w bs) ≡ count * w = length-drop w bs ∙ omega (arith, suc-mul count w) in
-    let front : bits w (number (take w bs)) ≡ take w bs = ap (λ n. bits n (number (take w bs))) (sym size) ∙ bits-number (take w bs) (below_2-take w bs each) in
+    let front : bits w (number (take w bs)) ≡ take w bs = ap (λ n. bits n (number (take w bs))) (sym size)
+    ∙ bits-number (take w bs) (below_2-take w bs each) in
     rw (all_bits-cons, front, all_bits-cut w count (drop w bs) rest (below_2-drop w bs each)) (take-append-drop w bs)
 
 -- ---- one bit
@@ -204,7 +212,8 @@ row_low : (w count i j : ℕ) → i * w + j < count * w → i < count
 row_low w count i j h = elim (cases_lt i count) [ inl low ↦ low | inr high ↦ absurd (omega (arith, mul-le count w i w high (omega arith), h)) ]
 
 -- bit `n` of many numbers, by its row and its column
-pub at-all_bits : (w : ℕ) (xs : List ℕ) (n i j : ℕ) → n ≡ i * w + j → j < w → n < length xs * w → get_or (all_bits w xs) n 0 ≡ bit_at (get_or xs i 0) j
+pub at-all_bits : (w : ℕ) (xs : List ℕ) (n i j : ℕ) → n ≡ i * w + j → j < w → n < length xs * w
+    → get_or (all_bits w xs) n 0 ≡ bit_at (get_or xs i 0) j
 at-all_bits w xs n i j e low h = rw e (get_or-all_bits w xs i j (row_low w (length xs) i j (rw e at h)) low)
 
 -- the test of bit `n` of many numbers
@@ -224,9 +233,12 @@ length-cut w zero bs = rw cut-zero
 length-cut w (suc count) bs = rw cut-suc (ap suc (length-cut w count (drop w bs)))
 
 -- one number more at the end
-pub cut_push : (w : ℕ) (xs : List ℕ) (x : ℕ) → x < 2 ^ w → ((k : ℕ) → k < length xs → get_or xs k 0 < 2 ^ w) → cut w (length xs + 1) (all_bits w xs ++ bits w x) ≡ xs ++ x ∷ []
+pub cut_push : (w : ℕ) (xs : List ℕ) (x : ℕ) → x < 2 ^ w → ((k : ℕ) → k < length xs → get_or xs k 0 < 2 ^ w)
+    → cut w (length xs + 1) (all_bits w xs ++ bits w x) ≡ xs ++ x ∷ []
 cut_push w xs x small each =
-    cut-all_bits w xs 1 (bits w x) each ∙ ap (λ t. xs ++ t) (cut-suc w 0 (bits w x) ∙ rw (cut-zero, take_all w (bits w x) (omega (arith, length-bits w x)), number-bits w x small))
+    cut-all_bits w xs 1 (bits w x) each
+    ∙ ap (λ t. xs ++ t) (cut-suc w 0 (bits w x)
+    ∙ rw (cut-zero, take_all w (bits w x) (omega (arith, length-bits w x)), number-bits w x small))
 
 pub bits_of_zero : (w : ℕ) → bits w 0 ≡ replicate w 0
 bits_of_zero zero = bits-zero 0

@@ -4,8 +4,8 @@ ghost use Rattle.bit_lists.specs.Bits.{bits, bit_of};
 
 use std::marker::Model;
 
-/// The last 120 bits that were pushed, as many as an alignment marker has. Contracts see it as their
-/// list, the oldest first.
+/// The last 120 bits that were pushed, as many as an alignment marker has. Contracts see it as
+/// their list, the oldest first.
 #[derive(Clone, Copy, Debug, PartialEq, Eq)]
 pub struct Window {
     // The oldest bit is the lowest.

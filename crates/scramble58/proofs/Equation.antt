@@ -16,25 +16,30 @@ at_shifted : (h : List ℕ) (y : ℕ) (ys : List ℕ) (n : ℕ) → length h ≡
 at_shifted h y ys n from = rw (← shifted h y ys from) (get_or-drop 1 (h ++ y ∷ ys) n 0 ∙ ap (λ k. get_or (h ++ y ∷ ys) k 0) (omega arith))
 
 -- one bit, and then the rest
-rest_tapped : (h : List ℕ) (z a b : ℕ) (zs as' bs : List ℕ) → length h ≡ 58 → IsTapped h (z ∷ zs) (a ∷ as') (b ∷ bs) → IsTapped (drop 1 h ++ z ∷ []) zs as' bs
+rest_tapped : (h : List ℕ) (z a b : ℕ) (zs as' bs : List ℕ) → length h ≡ 58 → IsTapped h (z ∷ zs) (a ∷ as') (b ∷ bs)
+    → IsTapped (drop 1 h ++ z ∷ []) zs as' bs
 rest_tapped h z a b zs as' bs from is =
     tapped_by (drop 1 h ++ z ∷ []) zs as' bs (omega (arith, is.same_line)) (omega (arith, is.same_length))
     (λ n low.
     rw (at_shifted h z zs (n + 19) from, at_shifted h z zs n from, ← suc-add n 19)
     (each_of h (z ∷ zs) (a ∷ as') (b ∷ bs) is (suc n) (omega arith)))
 
-first_tapped : (h : List ℕ) (z a b : ℕ) (zs as' bs : List ℕ) → length h ≡ 58 → IsTapped h (z ∷ zs) (a ∷ as') (b ∷ bs) → b ≡ (a + get_or h 19 0 + get_or h 0 0) % 2
+first_tapped : (h : List ℕ) (z a b : ℕ) (zs as' bs : List ℕ) → length h ≡ 58 → IsTapped h (z ∷ zs) (a ∷ as') (b ∷ bs)
+    → b ≡ (a + get_or h 19 0 + get_or h 0 0) % 2
 first_tapped h z a b zs as' bs from is =
-    rw (← get_or_append_left h (z ∷ zs) 0 19 (omega arith), ← get_or_append_left h (z ∷ zs) 0 0 (omega arith)) (each_of h (z ∷ zs) (a ∷ as') (b ∷ bs) is 0 (omega arith))
+    rw (← get_or_append_left h (z ∷ zs) 0 19 (omega arith), ← get_or_append_left h (z ∷ zs) 0 0 (omega arith))
+    (each_of h (z ∷ zs) (a ∷ as') (b ∷ bs) is 0 (omega arith))
 
-more_each : (h : List ℕ) (z a b : ℕ) (zs as' bs : List ℕ) → length h ≡ 58 → b ≡ (a + get_or h 19 0 + get_or h 0 0) % 2 → IsTapped (drop 1 h ++ z ∷ []) zs as' bs
+more_each : (h : List ℕ) (z a b : ℕ) (zs as' bs : List ℕ) → length h ≡ 58 → b ≡ (a + get_or h 19 0 + get_or h 0 0) % 2
+    → IsTapped (drop 1 h ++ z ∷ []) zs as' bs
     → (n : ℕ) → n < suc (length as') → get_or (b ∷ bs) n 0 ≡ (get_or (a ∷ as') n 0 + get_or (h ++ z ∷ zs) (n + 19) 0 + get_or (h ++ z ∷ zs) n 0) % 2
 more_each h z a b zs as' bs from one is zero low =
     rw (get_or_append_left h (z ∷ zs) 0 19 (omega arith), get_or_append_left h (z ∷ zs) 0 0 (omega arith)) one
 more_each h z a b zs as' bs from one is (suc n) low =
     rw (suc-add n 19, ← at_shifted h z zs (n + 19) from, ← at_shifted h z zs n from) (each_of (drop 1 h ++ z ∷ []) zs as' bs is n (omega arith))
 
-more_tapped : (h : List ℕ) (z a b : ℕ) (zs as' bs : List ℕ) → length h ≡ 58 → b ≡ (a + get_or h 19 0 + get_or h 0 0) % 2 → IsTapped (drop 1 h ++ z ∷ []) zs as' bs → IsTapped h (z ∷ zs) (a ∷ as') (b ∷ bs)
+more_tapped : (h : List ℕ) (z a b : ℕ) (zs as' bs : List ℕ) → length h ≡ 58 → b ≡ (a + get_or h 19 0 + get_or h 0 0) % 2
+    → IsTapped (drop 1 h ++ z ∷ []) zs as' bs → IsTapped h (z ∷ zs) (a ∷ as') (b ∷ bs)
 more_tapped h z a b zs as' bs from one is =
     tapped_by h (z ∷ zs) (a ∷ as') (b ∷ bs) (ap suc is.same_line) (ap suc is.same_length) (more_each h z a b zs as' bs from one is)
 
@@ -43,7 +48,8 @@ unfolding scrambled
 scrambled_meets h [] from = record { same_line = refl; same_length = refl; each = λ n low. absurd (omega arith) }
 scrambled_meets h (x ∷ xs) from =
     let y : ℕ = (x + get_or h 19 0 + get_or h 0 0) % 2 in
-    more_tapped h y x y (scrambled (drop 1 h ++ y ∷ []) xs) xs (scrambled (drop 1 h ++ y ∷ []) xs) from refl (scrambled_meets (drop 1 h ++ y ∷ []) xs (length-shifted h y from))
+    more_tapped h y x y (scrambled (drop 1 h ++ y ∷ []) xs) xs (scrambled (drop 1 h ++ y ∷ []) xs) from refl
+    (scrambled_meets (drop 1 h ++ y ∷ []) xs (length-shifted h y from))
 
 pub scrambled_alone : (h x y : List ℕ) → length h ≡ 58 → IsScrambled h x y → y ≡ scrambled h x
 unfolding scrambled
@@ -58,11 +64,13 @@ pub descrambled_meets : (h y : List ℕ) → length h ≡ 58 → IsDescrambled h
 unfolding descrambled
 descrambled_meets h [] from = record { same_line = refl; same_length = refl; each = λ n low. absurd (omega arith) }
 descrambled_meets h (y ∷ ys) from =
-    more_tapped h y y ((y + get_or h 19 0 + get_or h 0 0) % 2) ys ys (descrambled (drop 1 h ++ y ∷ []) ys) from refl (descrambled_meets (drop 1 h ++ y ∷ []) ys (length-shifted h y from))
+    more_tapped h y y ((y + get_or h 19 0 + get_or h 0 0) % 2) ys ys (descrambled (drop 1 h ++ y ∷ []) ys) from refl
+    (descrambled_meets (drop 1 h ++ y ∷ []) ys (length-shifted h y from))
 
 one_result : (h line a b b' : List ℕ) → IsTapped h line a b → IsTapped h line a b' → b ≡ b'
 one_result h line a b b' first second =
-    ext_get_or 0 b b' (first.same_length ∙ sym second.same_length) (λ n low. first.each n (omega (arith, first.same_length)) ∙ sym (second.each n (omega (arith, first.same_length))))
+    ext_get_or 0 b b' (first.same_length ∙ sym second.same_length)
+    (λ n low. first.each n (omega (arith, first.same_length)) ∙ sym (second.each n (omega (arith, first.same_length))))
 
 pub descrambled_alone : (h y x : List ℕ) → length h ≡ 58 → IsDescrambled h y x → x ≡ descrambled h y
 descrambled_alone h y x from is = one_result h y y x (descrambled h y) is (descrambled_meets h y from)

@@ -17,7 +17,8 @@ descrambled-append h (y ∷ ys) z =
 
 -- Where a bit and those 39 and 58 before it are those of a scrambled list, off places on, descrambling gives what was scrambled.
 pub descrambles-at : (x z : List ℕ) (off n : ℕ) → IsBits x → 58 ≤ n → n < length z → off + n < length x →
-    bit z n ≡ bit (scrambled ones58 x) (off + n) → bit z (n - 39) ≡ bit (scrambled ones58 x) (off + n - 39) → bit z (n - 58) ≡ bit (scrambled ones58 x) (off + n - 58) →
+    bit z n ≡ bit (scrambled ones58 x) (off + n) → bit z (n - 39) ≡ bit (scrambled ones58 x) (off + n - 39)
+    → bit z (n - 58) ≡ bit (scrambled ones58 x) (off + n - 58) →
     bit (descrambled ones58 z) n ≡ bit x (off + n)
 descrambles-at x z off n are low high within here far farther =
     let y = scrambled ones58 x in
@@ -30,7 +31,8 @@ descrambles-at x z off n are low high within here far farther =
     ∙ undone (bit x (off + n)) (bit z n) (bit z (n - 39)) (bit z (n - 58)) (are (off + n)) e
 
 -- A part of a scrambled list, from place `off` on, descrambles from bit 58 on to the same part of what was scrambled.
-pub descrambles : (x z : List ℕ) (off : ℕ) → IsBits x → ((i : ℕ) → i < length z → bit z i ≡ bit (scrambled ones58 x) (off + i)) → off + length z ≤ length x →
+pub descrambles : (x z : List ℕ) (off : ℕ) → IsBits x → ((i : ℕ) → i < length z → bit z i ≡ bit (scrambled ones58 x) (off + i))
+    → off + length z ≤ length x →
     (n : ℕ) → 58 ≤ n → n < length z → bit (descrambled ones58 z) n ≡ bit x (off + n)
 descrambles x z off are part within n low high =
     let a : off + (n - 39) ≡ off + n - 39 = omega arith in let b : off + (n - 58) ≡ off + n - 58 = omega arith in
