@@ -14,12 +14,14 @@ range_with_len-append a (suc n) m =
     rw (more, on) (ap (λ xs. a ∷ xs) (range_with_len-append (a + 1) n m))
 
 -- two functions that agree below n give the same lists
-pub map-range-same : {X : Type 0} (f g : ℕ → X) (a n : ℕ) → ((k : ℕ) → a ≤ k → k < a + n → f k ≡ g k) → map f (range_with_len a n) ≡ map g (range_with_len a n)
+pub map-range-same : {X : Type 0} (f g : ℕ → X) (a n : ℕ) → ((k : ℕ) → a ≤ k → k < a + n → f k ≡ g k)
+    → map f (range_with_len a n) ≡ map g (range_with_len a n)
 map-range-same f g a zero same = refl
 map-range-same f g a (suc n) same =
     ap₂ (λ x xs. x ∷ xs) (same a (omega arith) (omega arith)) (map-range-same f g (a + 1) n (λ k l h. same k (omega arith) (omega arith)))
 
-pub flat_map-range-same : {X : Type 0} (f g : ℕ → List X) (a n : ℕ) → ((k : ℕ) → a ≤ k → k < a + n → f k ≡ g k) → flat_map f (range_with_len a n) ≡ flat_map g (range_with_len a n)
+pub flat_map-range-same : {X : Type 0} (f g : ℕ → List X) (a n : ℕ) → ((k : ℕ) → a ≤ k → k < a + n → f k ≡ g k)
+    → flat_map f (range_with_len a n) ≡ flat_map g (range_with_len a n)
 flat_map-range-same f g a zero same = refl
 flat_map-range-same f g a (suc n) same =
     ap₂ (λ x xs. x ++ xs) (same a (omega arith) (omega arith)) (flat_map-range-same f g (a + 1) n (λ k l h. same k (omega arith) (omega arith)))
