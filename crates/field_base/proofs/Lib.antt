@@ -1,0 +1,11 @@
+pub mod Ring
+pub mod Vandermonde
+pub mod Along
+pub mod Value
+pub mod Locator
+pub mod Coefficients
+pub mod Values
+pub mod Shorter
+pub mod Words
+pub mod Massey
+pub mod Correct
