@@ -24,7 +24,8 @@ impl Model for Gf {
 impl Gf {
     ghost use Rattle.std.specs.Prelude.{◌%◌, IsTrue, ◌↔◌};
     ghost use Rattle.gf1024.specs.Word.{product};
-    ghost use Rattle.gf1024.specs.Symbol.{symbol, sum_of, product_of, zero_symbol, one_symbol, alpha, gf};
+    ghost use Rattle.gf1024.specs.Symbol.{symbol, sum_of, product_of, gf};
+    ghost use Rattle.gf1024.specs.Symbol.{zero_symbol, one_symbol, alpha};
     ghost use Rattle.field_base.specs.Field.{power};
 
     /// The symbol of the ten lowest bits.
@@ -92,7 +93,7 @@ impl Gf {
         all
     }
 
-    /// `a^n`, where `a` is the symbol 2.
+    /// `alpha^n`, where alpha is the symbol 2.
     pub fn power(n: u32) -> Gf
         ensures { result ≡ power gf alpha n }
     {

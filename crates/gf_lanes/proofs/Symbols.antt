@@ -33,13 +33,6 @@ made lanes list long long_l each =
     ext_get_or zero_symbol (map symbol lanes) list (length-map lanes symbol ∙ long ∙ sym long_l) (λ i less.
     at lanes i ∙ ap symbol (each i (omega (arith, length-map lanes symbol))) ∙ symbol_of_value (get_or list i zero_symbol))
 
-pub made_symbols : (lanes : List ℕ) (list : List Symbol) → length lanes ≡ 32
-    → ((k : ℕ) → k < 32 → get_or lanes k 0 ≡ (get_or list k zero_symbol).value) → AreSymbols lanes
-made_symbols lanes list long each = record {
-  long = long;
-  small = λ i less. subst (λ z. z < 1024) (sym (each i less)) (get_or list i zero_symbol).small;
-}
-
 -- one lane more
 pub put : (lanes : List ℕ) (list : List Symbol) (i v : ℕ) → i < length lanes → v ≡ (get_or list i zero_symbol).value
     → ((k : ℕ) → k < i → get_or lanes k 0 ≡ (get_or list k zero_symbol).value)

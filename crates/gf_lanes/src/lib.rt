@@ -4,7 +4,8 @@
 ghost use Rattle.std.specs.Prelude.{◌≡◌, ℕ, ◌<◌, List, map, slice_index_or};
 ghost use Rattle.gf1024.specs.Symbol.{Symbol, symbol, sum_of, product_of, zero_symbol, gf};
 ghost use Rattle.field_base.specs.Field.{total};
-ghost use Rattle.gf_lanes.specs.Lanes.{EachLane, AreSymbols, AreProducts, doubled_word, added_lanes};
+ghost use Rattle.gf_lanes.specs.Lanes.{EachLane, AreSymbols, AreProducts};
+ghost use Rattle.gf_lanes.specs.Lanes.{doubled_word, added_lanes};
 ghost use Rattle.gf_lanes.specs.Facts.{numbers_again};
 
 use gf1024::Gf;

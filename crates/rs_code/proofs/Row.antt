@@ -53,12 +53,3 @@ sums_next word sums steps new i c long less h hs hv j lt =
     ∙ value_next word x v s i (543 - i) at (omega arith) (get_or_default word (543 - i) c v (omega arith))
     (hv j lt ∙ ap (λ z. value gf (drop z word) x) up)
     ∙ ap (λ z. value gf (drop z word) x) down
-
--- a lane of the product by one symbol
-pub lane_is : (feedback lane : Symbol) (low list products : List Symbol) (k : ℕ) → k < 32
-    → list ≡ replicate 32 feedback → EachLane product_of list low products → lane ≡ get_or products k zero_symbol
-    → lane ≡ product_of feedback (get_or low k zero_symbol)
-lane_is feedback lane low list products k less el h e =
-    e ∙ h.each k less
-    ∙ ap (λ z. product_of z (get_or low k zero_symbol))
-    (ap (λ l. get_or l k zero_symbol) el ∙ get_or-replicate 32 k feedback zero_symbol less)

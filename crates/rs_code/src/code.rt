@@ -35,9 +35,10 @@ fn shift(register: &mut [Gf; 30], feedback: Gf)
     }
 }
 
-/// The values of the word at `a^0` to `a^29`: all zero exactly where it is a codeword.
+/// The values of the word at `alpha^0` to `alpha^29`: all zero exactly where it is a codeword.
 pub fn syndromes(word: &[Gf; 544]) -> [Gf; 30]
-    ensures { (j : ℕ) → j < 30 → slice_index_or result j zero_symbol ≡ value gf word.now (power gf alpha j) }
+    ensures { (j : ℕ) → j < 30
+        → slice_index_or result j zero_symbol ≡ value gf word.now (power gf alpha j) }
 {
     let sums = lane_values(word);
     let mut values = [Gf::low(0); 30];
@@ -47,10 +48,11 @@ pub fn syndromes(word: &[Gf; 544]) -> [Gf; 30]
     values
 }
 
-// The values at a^0 to a^31, one a lane.
+// The values at alpha^0 to alpha^31, one a lane.
 #[inline(always)]
 fn lane_values(word: &[Gf; 544]) -> Gf32
-    ensures { (j : ℕ) → j < 32 → slice_index_or result j zero_symbol ≡ value gf word.now (power gf alpha j) }
+    ensures { (j : ℕ) → j < 32
+        → slice_index_or result j zero_symbol ≡ value gf word.now (power gf alpha j) }
 {
     let steps = powers();
     let mut sums = Gf32::new([Gf::low(0); 32]);
@@ -65,7 +67,7 @@ static POWERS: [u16; 32] = [
     260, 520, 25, 50, 100, 200, 400, 800, 585, 155,
 ];
 
-// a^0 to a^31, one a lane.
+// alpha^0 to alpha^31, one a lane.
 #[inline(always)]
 fn powers() -> Gf32
     ensures { (j : ℕ) → j < 32 → slice_index_or result j zero_symbol ≡ power gf alpha j }
