@@ -1,12 +1,12 @@
 -- Frame lines that are turned into block lines one by one.
-use Rattle.std.proofs.Common.{◌≡◌, ℕ, ◌+◌, ◌-◌, ◌^◌, ◌<◌, ◌≤◌, ◌⊎◌, inl, inr, Bool, IsTrue, List, [], ◌∷◌, ◌++◌, length, Option, Some, None, IfSome, Result, Ok, Err, sym, ◌∙◌, ap, subst, refl, append_assoc, append-nil, length-append, arith}
+use Rattle.std.proofs.Common.{◌≡◌, ℕ, ◌^◌, ◌<◌, ◌≤◌, ◌⊎◌, inl, inr, Bool, List, [], ◌∷◌, ◌++◌, length, Option, Some, None, IfSome, Result, Ok, Err, sym, ◌∙◌, ap, subst, refl, append-nil, arith}
 use Rattle.std.specs.Io.KnownBytes.{Appends, Consumes}
 use Rattle.std.proofs.lemmas.List.Concat.{flat_map-append}
 use Rattle.mac_columns.specs.Columns.{columns_of}
 use Rattle.pcs_io.specs.Faults.{Rose}
 use Rattle.pcs_io.specs.Octets.{TakesWhereTold, AppendsFront}
-use Rattle.pcs_io.specs.FrameLines.{FrameLine, Begins, AreFrameLines}
-use Rattle.pcs_io.specs.Histories.{LinesState, History, Stands, Nexts, Tells, Answers, Ends, EndOpen, AreRefused, AreCut, told, opened, content, octets_ahead}
+use Rattle.pcs_io.specs.FrameLines.{FrameLine, Begins}
+use Rattle.pcs_io.specs.Histories.{LinesState, History, Stands, Nexts, Answers, Ends, AreRefused, AreCut, told, opened, content}
 use Rattle.pcs_io.specs.declared.fault.Kind.{Kind}
 use Rattle.pcs_io.specs.declared.fault.Kind.TheVariants.{NoEnd}
 use Rattle.pcs_io.specs.declared.fault.InFault.{InFault}
@@ -19,7 +19,7 @@ use Rattle.pcs_top.specs.Texts.{block_text, column_text}
 use Rattle.pcs_top.specs.Seen.{Seen, TookAll, Written, ReadFailed, WriteFailed}
 use Rattle.pcs_top.specs.Writing.{Wrote}
 use Rattle.pcs_top.specs.BlockCommand.{Blocks, IsRefused}
-use Rattle.pcs_top.specs.declared.status.Status.TheVariants.{Done, ReadFault, WriteFault, BadLine, TooLong}
+use Rattle.pcs_top.specs.declared.status.Status.TheVariants.{Done, WriteFault}
 use Rattle.pcs_top.proofs.WritingLemmas.{wrote-start, wrote-all}
 
 -- a reader that has taken these octets and answered these lines

@@ -1,5 +1,5 @@
 -- Worked examples: the lines that some octets are read as, and their block lines, by computation.
-use Rattle.std.proofs.Common.{◌≡◌, List, [], ◌∷◌, ◌++◌, refl}
+use Rattle.std.proofs.Common.{◌≡◌, List, [], ◌∷◌, refl}
 use Rattle.std.specs.Prelude.{codes}
 use Rattle.hex.proofs.OnLiterals.{hex_on_literals}
 use Rattle.pcs_io.specs.FrameLines.{FrameLine, AreFrameLines}
