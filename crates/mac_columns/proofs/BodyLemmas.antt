@@ -16,7 +16,7 @@ shifted xs a (suc n) =
     ap₂ take {x = 8 * (a + 1) + 8 - 8 * (a + 1)} {y = 8 * a + 8 - 8 * a} (omega arith) (ap (λ n. drop n xs) {x = 8 * (a + 1)} {y = 8 + 8 * a} (omega arith) ∙ sym (drop-drop (8 * a) 8 xs)) in
     ap₂ (λ c cs. Data c ∷ cs) here (shifted xs (a + 1) n)
 
-body-more : (xs : List ℕ) (gap : ℕ) → 8 ≤ length xs → body_of xs gap ≡ Data (slice_range xs 0 8) ∷ body_of (drop 8 xs) gap
+pub body-more : (xs : List ℕ) (gap : ℕ) → 8 ≤ length xs → body_of xs gap ≡ Data (slice_range xs 0 8) ∷ body_of (drop 8 xs) gap
 unfolding body_of
 body-more xs gap long =
     let count : length xs / 8 ≡ suc (length (drop 8 xs) / 8) = omega (arith, length-drop 8 xs) in

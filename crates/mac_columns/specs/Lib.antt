@@ -3,3 +3,5 @@ pub mod TailFields
 pub mod Columns
 pub mod Stages
 pub mod Sending
+pub mod Frames
+pub mod Gathering
