@@ -1,5 +1,5 @@
 -- Octets that are open become a line, and octets that are refused begin none.
-use Rattle.std.proofs.Common.{◌≡◌, ℕ, ◌+◌, ◌-◌, ◌*◌, ◌%◌, ◌≤◌, ◌==◌, ◌&&◌, nat_lt, nat_le, true, List, [], ◌∷◌, ◌++◌, length, sym, ◌∙◌, ap, refl, inl, inr, length-append, arith, Result, Ok, Err}
+use Rattle.std.proofs.Common.{◌≡◌, ℕ, ◌+◌, ◌-◌, ◌*◌, ◌%◌, ◌≤◌, ◌==◌, ◌&&◌, nat_lt, nat_le, true, List, [], ◌∷◌, ◌++◌, length, ◌∙◌, ap, refl, inl, inr, length-append, arith, Result, Ok, Err}
 use Rattle.std.specs.List.{AllByRecursion}
 use Rattle.std.proofs.lemmas.List.Elements.{All-from_recursion}
 use Rattle.std.specs.Char.{is_ascii_digit, is_ascii_hexdigit}
@@ -9,10 +9,12 @@ use Rattle.hex.specs.Hex.{decode_of, is_hex_digit}
 use Rattle.hex.specs.declared.error.FromHexError.{FromHexError}
 use Rattle.hex.proofs.HexLemmas.{decode_of-digits}
 use Rattle.pcs_io.specs.declared.fault.Kind.TheVariants.{NoGap, BadGap, BadHex, LongFrame}
-use Rattle.pcs_io.specs.FrameLines.{LineAt, Line, Refused, Open, gap_at, digits_at, line_of}
+use Rattle.pcs_io.specs.Grammars.{LineAt, Line, Refused, Open}
+use Rattle.pcs_io.specs.FrameLines.{frame_line_at, gap_at, digits_at, line_of, FrameLine}
 use Rattle.pcs_io.specs.Grammar.{OpenBecomesALine, RefusedBeginsNoLine, RefusesAtTheFirst}
 use Rattle.pcs_io.proofs.Runs.{AreDigits, digits-run}
-use Rattle.pcs_io.proofs.FrameLineLaws.{refused-more}
+use Rattle.pcs_io.specs.FrameGrammar.{frame_grammar}
+use Rattle.pcs_io.proofs.LineLaws.{refused-more, refused-no-line}
 use Rattle.pcs_io.proofs.GrammarLaw.{chosen}
 
 hex-digit : (x : ℕ) → is_ascii_hexdigit x ≡ true → is_hex_digit x ≡ true
@@ -27,13 +29,13 @@ are-pushed [] x all h = (h, tt)
 are-pushed (d ∷ ds) x all h = (all.0, are-pushed ds x all.1 h)
 
 -- an even number of digits is ended by a newline
-even-ends : (ds : List ℕ) (gap : ℕ) → AreDigits ds → length ds % 2 ≡ 0 → (frame : List ℕ) × (digits_at gap ds (10 ∷ []) ≡ Line gap frame [])
+even-ends : (ds : List ℕ) (gap : ℕ) → AreDigits ds → length ds % 2 ≡ 0 → (frame : List ℕ) × (digits_at gap ds (10 ∷ []) ≡ Line (record { gap = gap; frame = frame }) [])
 even-ends ds gap all even =
     let decoded = decode_of-digits ds even (All-from_recursion _ ds (hex-digits ds all)) in
     (decoded.0, ap (λ d. line_of gap d []) decoded.1)
 
 -- digits for which there is room can become a line
-ends : (ds : List ℕ) (gap : ℕ) → AreDigits ds → length ds ≤ 32768 → (more : List ℕ) × (frame : List ℕ) × (digits_at gap ds more ≡ Line gap frame [])
+ends : (ds : List ℕ) (gap : ℕ) → AreDigits ds → length ds ≤ 32768 → (more : List ℕ) × (frame : List ℕ) × (digits_at gap ds more ≡ Line (record { gap = gap; frame = frame }) [])
 ends ds gap all short = elim (cases_eq (length ds % 2) 0) [
   | inl even ↦ (let now = even-ends ds gap all even in (10 ∷ [], now.0, now.1))
   | inr odd ↦ (
@@ -46,8 +48,8 @@ not-open gap (Ok frame) xs e = cc
 not-open gap (Err error) xs e = cc
 
 -- more octets that make a line
-abbrev pub Completes : (List ℕ → LineAt) → List ℕ → Type 0
-Completes at xs = (more : List ℕ) × (gap : ℕ) × (frame : List ℕ) × (at (xs ++ more) ≡ Line gap frame [])
+abbrev pub Completes : (List ℕ → LineAt FrameLine) → List ℕ → Type 0
+Completes at xs = (more : List ℕ) × (gap : ℕ) × (frame : List ℕ) × (at (xs ++ more) ≡ Line (record { gap = gap; frame = frame }) [])
 
 open-digits : (xs ds : List ℕ) (gap : ℕ) → AreDigits ds → length ds ≤ 32768 → digits_at gap ds xs ≡ Open → Completes (digits_at gap ds) xs
 open-digits [] ds gap all short e = let end = ends ds gap all short in (end.0, gap, end.1, end.2)
@@ -89,7 +91,8 @@ open-line (x ∷ xs) e = elim (chosen (is_ascii_digit x) _ _ _ e) [
 ]
 
 refused-line : RefusedBeginsNoLine
-refused-line octets more kind gap frame rest refused line = let e : Refused kind ≡ Line gap frame rest = sym (refused-more octets more kind refused) ∙ line in cc
+refused-line octets more kind gap frame rest refused line =
+    refused-no-line _ kind (record { gap = gap; frame = frame }) rest (refused-more frame_line_at octets more kind frame_grammar refused) line
 
 pub refuses-at-the-first : RefusesAtTheFirst
 refuses-at-the-first = (open-line, refused-line)

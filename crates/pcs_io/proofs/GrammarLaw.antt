@@ -10,23 +10,26 @@ use Rattle.std.proofs.lemmas.Fmt.{decimal_digit, decimal_step, decimal_by_steps}
 use Rattle.hex.specs.Hex.{decode_of, is_hex_digit}
 use Rattle.hex.proofs.HexLemmas.{decode_of-ok}
 use Rattle.hex.specs.declared.error.FromHexError.{FromHexError}
-use Rattle.pcs_io.specs.declared.fault.Kind.{Kind}
 use Rattle.pcs_io.specs.declared.fault.Kind.TheVariants.{NoGap, BadGap, BadHex, OddHex, LongFrame}
-use Rattle.pcs_io.specs.FrameLines.{LineAt, Line, Refused, Open, line_at, gap_at, digits_at, line_of}
+use Rattle.pcs_io.specs.Grammars.{LineAt, Line, Open}
+use Rattle.pcs_io.specs.FrameLines.{frame_line_at, gap_at, digits_at, line_of, FrameLine}
 use Rattle.pcs_io.specs.Grammar.{IsFrameLine}
+use Rattle.pcs_io.proofs.LineLaws.{refused-no-line}
 use Rattle.pcs_io.proofs.Runs.{AreDigits, digits-run}
 
 -- which way a test went
-pub chosen : (b : Bool) (p q z : LineAt) → cond b p q ≡ z → ((b ≡ true) × (p ≡ z)) ⊎ ((b ≡ false) × (q ≡ z))
+pub chosen : (b : Bool) (p q z : LineAt FrameLine) → cond b p q ≡ z → ((b ≡ true) × (p ≡ z)) ⊎ ((b ≡ false) × (q ≡ z))
 chosen true p q z e = inl (refl, e)
 chosen false p q z e = inr (refl, e)
 
-no-refusal : (kind : Kind) (g : ℕ) (f r : List ℕ) → Refused kind ≡ Line g f r → ⊥
-no-refusal kind g f r e = cc
+same-line : (a b : FrameLine) (r s : List ℕ) → Line a r ≡ Line b s → (a ≡ b) × (r ≡ s)
+same-line a b r s e = (cc, cc)
 
-line_of-line : (gap g : ℕ) (d : Result (List ℕ) FromHexError) (xs f r : List ℕ) → line_of gap d xs ≡ Line g f r → (g ≡ gap) × (d ≡ Ok f) × (xs ≡ r)
-line_of-line gap g (Ok frame) xs f r e = (cc, cc, cc)
-line_of-line gap g (Err error) xs f r e = absurd (no-refusal OddHex g f r e)
+line_of-line : (gap g : ℕ) (d : Result (List ℕ) FromHexError) (xs f r : List ℕ) → line_of gap d xs ≡ Line (record { gap = g; frame = f }) r → (g ≡ gap) × (d ≡ Ok f) × (xs ≡ r)
+line_of-line gap g (Ok frame) xs f r e =
+    let same = same-line (record { gap = gap; frame = frame }) (record { gap = g; frame = f }) xs r e in
+    (sym (ap (λ (l : FrameLine). l.gap) same.0), ap (λ (l : FrameLine). Ok l.frame) same.0, same.1)
+line_of-line gap g (Err error) xs f r e = absurd (refused-no-line _ OddHex (record { gap = g; frame = f }) r refl e)
 
 -- the digits that were read end at a newline
 pub record Digits (front xs : List ℕ) (gap g : ℕ) (f r : List ℕ) : Type 0 where
@@ -41,21 +44,21 @@ one-more front x short other =
     let ne : length front ≡ 32768 → ⊥ = eqb-false (length front) 32768 other in
     omega (arith, length-append front (x ∷ []), ne)
 
-digits-sound : (xs front : List ℕ) (gap g : ℕ) (f r : List ℕ) → length front ≤ 32768 → digits_at gap front xs ≡ Line g f r → Digits front xs gap g f r
-digits-sound [] front gap g f r short e = absurd (let h : Open ≡ Line g f r = e in cc)
+digits-sound : (xs front : List ℕ) (gap g : ℕ) (f r : List ℕ) → length front ≤ 32768 → digits_at gap front xs ≡ Line (record { gap = g; frame = f }) r → Digits front xs gap g f r
+digits-sound [] front gap g f r short e = absurd (let h : Open ≡ Line (record { gap = g; frame = f }) r = e in cc)
 digits-sound (x ∷ xs) front gap g f r short e = elim (chosen (x == 10) _ _ _ e) [
   | inl p ↦ (
       let parts = line_of-line gap g (decode_of front) xs f r p.1 in
       record { digits = front; gap_is = parts.0; spelled = ap (λ c. front ++ c ∷ xs) (eqb-true x 10 p.0) ∙ ap (λ s. front ++ 10 ∷ s) parts.2; octets = parts.1; short = short })
   | inr p ↦ elim (chosen (is_ascii_hexdigit x) _ _ _ p.1) [
     | inl q ↦ elim (chosen (length front == 32768) _ _ _ q.1) [
-      | inl s ↦ absurd (no-refusal LongFrame g f r s.1)
+      | inl s ↦ absurd (refused-no-line _ LongFrame (record { gap = g; frame = f }) r refl s.1)
       | inr s ↦ (
           let more : length (front ++ x ∷ []) ≤ 32768 = one-more front x short s.0 in
           let rest = digits-sound xs (front ++ x ∷ []) gap g f r more s.1 in
           record { digits = rest.digits; gap_is = rest.gap_is; spelled = sym (append_assoc front (x ∷ []) xs) ∙ rest.spelled; octets = rest.octets; short = rest.short })
     ]
-    | inr q ↦ absurd (no-refusal BadHex g f r q.1)
+    | inr q ↦ absurd (refused-no-line _ BadHex (record { gap = g; frame = f }) r refl q.1)
   ]
 ]
 
@@ -85,8 +88,8 @@ pub record IsNextDigit (gap x : ℕ) : Type 0 where
 next-digit : (gap x : ℕ) → (is_ascii_digit x && nat_lt 0 gap && nat_le (10 * gap + (x - 48)) 1000000) ≡ true → IsNextDigit gap x
 next-digit gap x t = record { some = grind (arith, nat_tests); low = grind (arith, nat_tests); high = grind (arith, nat_tests); small = grind (arith, nat_tests) }
 
-gap-sound : (xs : List ℕ) (gap g : ℕ) (f r : List ℕ) → gap ≤ 1000000 → gap_at gap xs ≡ Line g f r → Gap (decimal gap) xs g f r
-gap-sound [] gap g f r small e = absurd (let h : Open ≡ Line g f r = e in cc)
+gap-sound : (xs : List ℕ) (gap g : ℕ) (f r : List ℕ) → gap ≤ 1000000 → gap_at gap xs ≡ Line (record { gap = g; frame = f }) r → Gap (decimal gap) xs g f r
+gap-sound [] gap g f r small e = absurd (let h : Open ≡ Line (record { gap = g; frame = f }) r = e in cc)
 gap-sound (x ∷ xs) gap g f r small e = elim (chosen (x == 32) _ _ _ e) [
   | inl p ↦ (
       let d = digits-sound xs [] gap g f r (omega arith) p.1 in
@@ -108,25 +111,25 @@ gap-sound (x ∷ xs) gap g f r small e = elim (chosen (x == 32) _ _ _ e) [
           short = rest.short;
           small = rest.small;
         })
-    | inr q ↦ absurd (no-refusal BadGap g f r q.1)
+    | inr q ↦ absurd (refused-no-line _ BadGap (record { gap = g; frame = f }) r refl q.1)
   ]
 ]
 
 first-digit : (x : ℕ) → is_ascii_digit x ≡ true → (48 ≤ x) × (x ≤ 57)
 first-digit x t = (grind (arith, nat_tests), grind (arith, nat_tests))
 
-line-sound : (octets : List ℕ) (g : ℕ) (f r : List ℕ) → line_at octets ≡ Line g f r → Gap [] octets g f r
-line-sound [] g f r e = absurd (let h : Open ≡ Line g f r = e in cc)
+line-sound : (octets : List ℕ) (g : ℕ) (f r : List ℕ) → frame_line_at octets ≡ Line (record { gap = g; frame = f }) r → Gap [] octets g f r
+line-sound [] g f r e = absurd (let h : Open ≡ Line (record { gap = g; frame = f }) r = e in cc)
 line-sound (x ∷ xs) g f r e = elim (chosen (is_ascii_digit x) _ _ _ e) [
   | inl p ↦ (
       let d = first-digit x p.0 in
       let one : decimal (x - 48) ≡ x ∷ [] = decimal_digit (x - 48) (omega arith) ∙ ap (λ c. c ∷ []) {x = 48 + (x - 48)} {y = x} (omega arith) in
       let rest = gap-sound xs (x - 48) g f r (omega arith) p.1 in
       record { digits = rest.digits; spelled = ap (λ s. s ++ xs) (sym one) ∙ rest.spelled; octets = rest.octets; short = rest.short; small = rest.small })
-  | inr p ↦ absurd (no-refusal NoGap g f r p.1)
+  | inr p ↦ absurd (refused-no-line _ NoGap (record { gap = g; frame = f }) r refl p.1)
 ]
 
-pub sound : (octets : List ℕ) (g : ℕ) (f r : List ℕ) → line_at octets ≡ Line g f r → (text : List ℕ) × IsFrameLine text g f × (octets ≡ text ++ r)
+pub sound : (octets : List ℕ) (g : ℕ) (f r : List ℕ) → frame_line_at octets ≡ Line (record { gap = g; frame = f }) r → (text : List ℕ) × IsFrameLine text g f × (octets ≡ text ++ r)
 sound octets g f r e =
     let d = line-sound octets g f r e in
     let half = decode_of-ok d.digits f d.octets in (
@@ -153,29 +156,29 @@ goes-on n some small = grind (arith, nat_tests)
 
 -- what is read after the digits of a gap
 abbrev pub ReadsGap : ℕ → List ℕ → Type 0
-ReadsGap n digits = n ≤ 1000000 → (xs : List ℕ) → line_at (digits ++ xs) ≡ gap_at n xs
+ReadsGap n digits = n ≤ 1000000 → (xs : List ℕ) → frame_line_at (digits ++ xs) ≡ gap_at n xs
 
 gap-one : (n : ℕ) → n < 10 → ReadsGap n ((48 + n) ∷ [])
 gap-one n h = λ small xs. cond-true (is_ascii_digit (48 + n)) _ _ (a-digit n h) ∙ ap (λ m. gap_at m xs) {x = 48 + n - 48} {y = n} (omega arith)
 
 gap-step : (n : ℕ) (digits : List ℕ) → 10 ≤ n → ReadsGap (n / 10) digits → ReadsGap n (digits ++ ((48 + n % 10) ∷ []))
 gap-step n digits some before = λ small xs.
-    ap line_at (append_assoc digits ((48 + n % 10) ∷ []) xs)
+    ap frame_line_at (append_assoc digits ((48 + n % 10) ∷ []) xs)
     ∙ before (omega arith) ((48 + n % 10) ∷ xs)
     ∙ cond-false (48 + n % 10 == 32) _ _ (not-space (n % 10))
     ∙ cond-true (is_ascii_digit (48 + n % 10) && nat_lt 0 (n / 10) && nat_le (10 * (n / 10) + (48 + n % 10 - 48)) 1000000) _ _ (goes-on n some small)
     ∙ ap (λ m. gap_at m xs) {x = 10 * (n / 10) + (48 + n % 10 - 48)} {y = n} (omega arith)
 
-reads-gap : (n : ℕ) → n ≤ 1000000 → (xs : List ℕ) → line_at (decimal n ++ xs) ≡ gap_at n xs
+reads-gap : (n : ℕ) → n ≤ 1000000 → (xs : List ℕ) → frame_line_at (decimal n ++ xs) ≡ gap_at n xs
 reads-gap n small = decimal_by_steps ReadsGap gap-one gap-step n (omega arith) small
 
-complete : (octets : List ℕ) (g : ℕ) (f r text : List ℕ) → IsFrameLine text g f → octets ≡ text ++ r → line_at octets ≡ Line g f r
+complete : (octets : List ℕ) (g : ℕ) (f r text : List ℕ) → IsFrameLine text g f → octets ≡ text ++ r → frame_line_at octets ≡ Line (record { gap = g; frame = f }) r
 complete octets g f r text line e =
     let half = decode_of-ok line.digits f line.octets in
     let shape : octets ≡ decimal g ++ 32 ∷ (line.digits ++ 10 ∷ r) = e ∙ ap (λ t. t ++ r) line.spelled ∙ simp append_assoc in
-    ap line_at shape ∙ reads-gap g line.gap_limit (32 ∷ (line.digits ++ 10 ∷ r))
+    ap frame_line_at shape ∙ reads-gap g line.gap_limit (32 ∷ (line.digits ++ 10 ∷ r))
     ∙ digits-run line.digits [] (10 ∷ r) g (are-digits line.digits (recursion_from_All _ line.digits half.1)) (omega (arith, half.2, line.frame_limit))
     ∙ ap (λ d. line_of g d r) line.octets
 
-pub the_law : (octets : List ℕ) (gap : ℕ) (frame rest : List ℕ) → ((line_at octets ≡ Line gap frame rest) ↔ ((text : List ℕ) × IsFrameLine text gap frame × (octets ≡ text ++ rest)))
+pub the_law : (octets : List ℕ) (gap : ℕ) (frame rest : List ℕ) → ((frame_line_at octets ≡ Line (record { gap = gap; frame = frame }) rest) ↔ ((text : List ℕ) × IsFrameLine text gap frame × (octets ≡ text ++ rest)))
 the_law octets gap frame rest = (sound octets gap frame rest, λ t. complete octets gap frame rest t.0 t.1 t.2)

@@ -7,7 +7,8 @@ use Rattle.std.proofs.lemmas.Bool.Decides.{nat_tests}
 use Rattle.std.proofs.lemmas.List.{take-append-drop, drop_more}
 use Rattle.hex.specs.Hex.{decode_of}
 use Rattle.pcs_io.specs.declared.fault.Kind.TheVariants.{LongFrame, BadHex}
-use Rattle.pcs_io.specs.FrameLines.{LineAt, Refused, digits_at, line_of}
+use Rattle.pcs_io.specs.Grammars.{LineAt, Refused}
+use Rattle.pcs_io.specs.FrameLines.{digits_at, line_of, FrameLine}
 
 abbrev pub AreDigits : List ℕ → Type 0
 AreDigits xs = AllByRecursion (λ x. is_ascii_hexdigit x ≡ true) xs
@@ -21,10 +22,10 @@ other-octet x h = grind (arith, nat_tests)
 not-full : (n m : ℕ) → n + (m + 1) ≤ 32768 → (n == 32768) ≡ false
 not-full n m h = grind (arith, nat_tests)
 
-taken : (a b c : Bool) (p q r s : LineAt) → a ≡ false → b ≡ true → c ≡ false → cond a p (cond b (cond c q r) s) ≡ r
+taken : (a b c : Bool) (p q r s : LineAt FrameLine) → a ≡ false → b ≡ true → c ≡ false → cond a p (cond b (cond c q r) s) ≡ r
 taken a b c p q r s x y z = cond-false a p (cond b (cond c q r) s) x ∙ cond-true b (cond c q r) s y ∙ cond-false c q r z
 
-full : (a b c : Bool) (p q r s : LineAt) → a ≡ false → b ≡ true → c ≡ true → cond a p (cond b (cond c q r) s) ≡ q
+full : (a b c : Bool) (p q r s : LineAt FrameLine) → a ≡ false → b ≡ true → c ≡ true → cond a p (cond b (cond c q r) s) ≡ q
 full a b c p q r s x y z = cond-false a p (cond b (cond c q r) s) x ∙ cond-true b (cond c q r) s y ∙ cond-true c q r z
 
 -- digits for which there is room come to those that came before

@@ -1,27 +1,23 @@
 -- The grammar of frame lines: a gap in decimal digits, a space, hexadecimal digits and a newline.
-use Rattle.std.specs.Prelude.{◌≡◌, ℕ, ◌+◌, ◌-◌, ◌*◌, ◌==◌, ◌&&◌, nat_lt, nat_le, List, [], ◌∷◌, ◌++◌, length, Result, Ok, Err, if◌then◌else◌}
+use Rattle.std.specs.Prelude.{ℕ, ◌+◌, ◌-◌, ◌*◌, ◌==◌, ◌&&◌, nat_lt, nat_le, List, [], ◌∷◌, ◌++◌, length, Result, Ok, Err, if◌then◌else◌}
 use Rattle.std.specs.Char.{is_ascii_digit, is_ascii_hexdigit}
 use Rattle.hex.specs.Hex.{decode_of}
 use Rattle.hex.specs.declared.error.FromHexError.{FromHexError}
-use Rattle.pcs_io.specs.declared.fault.Kind.{Kind}
 use Rattle.pcs_io.specs.declared.fault.Kind.TheVariants.{NoGap, BadGap, BadHex, OddHex, LongFrame}
+use Rattle.pcs_io.specs.Grammars.{LineAt, Line, Refused, Open}
 
--- what stands at the front of some octets
-pub data LineAt : Type 0 where
-  -- a line of this gap and frame, and what comes after it
-  Line : (gap : ℕ) (frame : List ℕ) (rest : List ℕ) → LineAt
-  -- an octet that can't stand there comes first
-  Refused : (kind : Kind) → LineAt
-  -- a line may have begun, and isn't over
-  Open : LineAt
+-- a frame and the gap behind it
+pub record FrameLine : Type 0 where
+  pub gap : ℕ
+  pub frame : List ℕ
 
 -- the line whose digits are over
-abbrev pub line_of : ℕ → Result (List ℕ) FromHexError → List ℕ → LineAt
-line_of gap (Ok frame) rest = Line gap frame rest
+abbrev pub line_of : ℕ → Result (List ℕ) FromHexError → List ℕ → LineAt FrameLine
+line_of gap (Ok frame) rest = Line (record { gap = gap; frame = frame }) rest
 line_of gap (Err e) rest = Refused OddHex
 
 -- from the digits on, of which these came before
-abbrev pub digits_at : ℕ → List ℕ → List ℕ → LineAt
+abbrev pub digits_at : ℕ → List ℕ → List ℕ → LineAt FrameLine
 digits_at gap digits [] = Open
 digits_at gap digits (x ∷ xs) =
     if x == 10 then line_of gap (decode_of digits) xs
@@ -29,28 +25,14 @@ digits_at gap digits (x ∷ xs) =
     else Refused BadHex
 
 -- from the gap on, of which digits of this value came before
-abbrev pub gap_at : ℕ → List ℕ → LineAt
+abbrev pub gap_at : ℕ → List ℕ → LineAt FrameLine
 gap_at gap [] = Open
 gap_at gap (x ∷ xs) =
     if x == 32 then digits_at gap [] xs
     else if is_ascii_digit x && nat_lt 0 gap && nat_le (10 * gap + (x - 48)) 1000000 then gap_at (10 * gap + (x - 48)) xs
     else Refused BadGap
 
--- from the start of a line on
-abbrev pub line_at : List ℕ → LineAt
-line_at [] = Open
-line_at (x ∷ xs) = if is_ascii_digit x then gap_at (x - 48) xs else Refused NoGap
-
--- a line, without where it lies in memory
-pub record FrameLine : Type 0 where
-  pub gap : ℕ
-  pub frame : List ℕ
-
--- the octets are these lines, and then the rest
-abbrev pub Begins : List ℕ → List FrameLine → List ℕ → Type 0
-Begins octets [] rest = octets ≡ rest
-Begins octets (line ∷ lines) rest = (after : List ℕ) × (line_at octets ≡ Line line.gap line.frame after) × Begins after lines rest
-
--- the octets are these lines, whole
-abbrev pub AreFrameLines : List ℕ → List FrameLine → Type 0
-AreFrameLines octets lines = Begins octets lines []
+-- what stands at the front of some octets
+abbrev pub frame_line_at : List ℕ → LineAt FrameLine
+frame_line_at [] = Open
+frame_line_at (x ∷ xs) = if is_ascii_digit x then gap_at (x - 48) xs else Refused NoGap

@@ -21,6 +21,12 @@ pub enum Kind {
     /// The input ended within the line.
     #[error("no end")]
     NoEnd,
+    /// The line doesn't begin with `01 ` or `10 `.
+    #[error("bad sync")]
+    BadSync,
+    /// Fewer or more than sixteen hexadecimal digits.
+    #[error("bad width")]
+    BadWidth,
 }
 
 /// Why a reader of lines gives no further line.

@@ -1,20 +1,26 @@
 //! Sources and sinks of octets, and readers of lines over them.
 #![tactic(auto)]
 
+mod block_lines;
+mod block_parser;
 mod fault;
-mod frame_line;
+mod frame_parser;
 mod input_buffer;
 mod laws;
 mod lines;
 mod memory;
-mod quick_line;
+mod parser;
+mod pure;
+mod reader;
 mod slices;
 mod source;
 mod std_streams;
 
+pub use block_lines::{BlockLine, BlockLines};
 pub use fault::{InFault, Kind};
 pub use laws::{the_first_bad_octet, the_form_of_a_line};
 pub use lines::{Line, Lines};
 pub use memory::{MemSink, MemSource};
+pub use pure::{NullSink, PureSource};
 pub use source::{Failed, Sink, Source, put_all};
 pub use std_streams::{StdSink, StdSource};

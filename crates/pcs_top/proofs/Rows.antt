@@ -2,7 +2,8 @@
 use Rattle.std.proofs.Common.{◌≡◌, List, [], ◌∷◌, refl}
 use Rattle.std.specs.Prelude.{codes}
 use Rattle.hex.proofs.OnLiterals.{hex_on_literals}
-use Rattle.pcs_io.specs.FrameLines.{FrameLine, AreFrameLines}
+use Rattle.pcs_io.specs.FrameLines.{FrameLine, frame_line_at}
+use Rattle.pcs_io.specs.Grammars.{AreLines}
 use Rattle.pcs_top.specs.Texts.{block_text, column_text}
 use Rattle.mac_columns.specs.Columns.{columns_of, body_of}
 use Rattle.block66.specs.Blocks.{block_of}
@@ -10,7 +11,7 @@ use Rattle.block66.specs.Blocks.{block_of}
 one-frame : List FrameLine
 one-frame = record { gap = 1; frame = 1 ∷ 2 ∷ 3 ∷ [] } ∷ []
 
-one-frame-read : AreFrameLines (codes "1 010203\n") one-frame
+one-frame-read : AreLines frame_line_at (codes "1 010203\n") one-frame
 unfolding one-frame hex_on_literals
 one-frame-read = ([], refl, refl)
 
@@ -21,7 +22,7 @@ one-frame-text = refl
 empty-frame : List FrameLine
 empty-frame = record { gap = 0; frame = [] } ∷ []
 
-empty-frame-read : AreFrameLines (codes "0 \n") empty-frame
+empty-frame-read : AreLines frame_line_at (codes "0 \n") empty-frame
 unfolding empty-frame hex_on_literals
 empty-frame-read = ([], refl, refl)
 
@@ -32,7 +33,7 @@ empty-frame-text = refl
 two-frames : List FrameLine
 two-frames = record { gap = 0; frame = 1 ∷ 2 ∷ 3 ∷ 4 ∷ 5 ∷ 6 ∷ 7 ∷ [] } ∷ record { gap = 0; frame = 0 ∷ 1 ∷ 2 ∷ 3 ∷ 4 ∷ 5 ∷ 6 ∷ 7 ∷ [] } ∷ []
 
-two-frames-read : AreFrameLines (codes "0 01020304050607\n0 0001020304050607\n") two-frames
+two-frames-read : AreLines frame_line_at (codes "0 01020304050607\n0 0001020304050607\n") two-frames
 unfolding two-frames hex_on_literals
 two-frames-read = (codes "0 0001020304050607\n", refl, ([], refl, refl))
 

@@ -1,5 +1,5 @@
 -- Text of which a part isn't written yet.
-use Rattle.std.proofs.Common.{ℕ, ◌+◌, ◌≤◌, List, [], ◌++◌, take, length, Option, Some, None, sym, ◌∙◌, ap, refl, append_assoc, append-nil, length-append, arith}
+use Rattle.std.proofs.Common.{◌≡◌, ℕ, ◌+◌, ◌≤◌, List, [], ◌++◌, take, length, Option, Some, None, sym, ◌∙◌, ap, refl, append_assoc, append-nil, length-append, arith}
 use Rattle.std.proofs.Math.Seq.{take-append-add}
 use Rattle.std.proofs.lemmas.List.{take-append-le}
 use Rattle.std.specs.Io.KnownBytes.{Appends}
@@ -9,6 +9,9 @@ use Rattle.pcs_top.specs.Writing.{Wrote}
 
 pub wrote-start : (start : Option (List ℕ)) → Wrote start start [] []
 wrote-start start = record { written = []; appended = appends-none start; joined = refl }
+
+pub wrote-none : (start : Option (List ℕ)) (text pending : List ℕ) → text ≡ [] → pending ≡ [] → Wrote start start text pending
+wrote-none start text pending none empty = rw (none, empty) (wrote-start start)
 
 -- more text stands behind
 pub wrote-more : (start now : Option (List ℕ)) (text pending more : List ℕ) → Wrote start now text pending → Wrote start now (text ++ more) (pending ++ more)

@@ -1,7 +1,10 @@
 pub mod Statuses
+pub mod Notes
 pub mod Words
 pub mod Texts
 pub mod Writing
 pub mod Seen
-pub mod BlockCommand
+pub mod LineCommand
+pub mod Unblocking
 pub mod Top
+pub mod Laws

@@ -2,28 +2,26 @@
 ghost use Rattle.std.specs.Prelude.{◌≡◌, ◌≤◌, ◌^◌, ◌++◌, [], ℕ, List, Option, length, IfOk, OnOk, OnErr, MatchResult};
 ghost use Rattle.pcs_io.specs.Faults.{HasCause};
 ghost use Rattle.pcs_io.specs.Octets.{AppendsFront};
+ghost use Rattle.pcs_io.specs.FrameLines.{frame_line_at};
 ghost use Rattle.pcs_io.specs.Histories.{Stands, opened};
-ghost use Rattle.pcs_top.specs.BlockCommand.{Blocks, Converts};
-ghost use Rattle.pcs_top.specs.Texts.{block_line, column_text};
+ghost use Rattle.pcs_top.specs.LineCommand.{Converted, Converts};
+ghost use Rattle.pcs_top.specs.Texts.{block_line, block_text, column_text};
 ghost use Rattle.pcs_top.specs.Writing.{Wrote};
 ghost use Rattle.mac_columns.specs.Columns.{columns_of};
 
-use crate::Status;
 use crate::output::Output;
+use crate::{LIMIT, Status};
 use block66::{Block, encode};
 use mac_columns::FrameColumns;
 use pcs_io::{Failed, Lines, Sink, Source};
 use std::alloc::{AllocError, Global};
-
-// The greatest number of octets that are taken.
-const LIMIT: u64 = 1 << 40;
 
 // The octets of a block line.
 const LINE: usize = 20;
 
 /// Reads frame lines and writes their block lines.
 pub fn blocks<R: Source, W: Sink>(alloc: Global, source: &mut R, sink: &mut W) -> Status
-    ensures { Blocks (record {
+    ensures { Converted frame_line_at block_text (record {
       left_before = R.left source.old;
       left_after = R.left source.new;
       ended = R.ended source.new;
@@ -46,7 +44,7 @@ pub fn blocks<R: Source, W: Sink>(alloc: Global, source: &mut R, sink: &mut W) -
 
 // All the memory that the command needs.
 fn open(alloc: Global) -> Result<(Lines, Output), AllocError>
-    ensures { IfOk result (λ all. Stands all.0 (opened (2 ^ 40)) × (all.1 ≡ [])) }
+    ensures { IfOk result (λ all. Stands frame_line_at all.0 (opened (2 ^ 40)) × (all.1 ≡ [])) }
 {
     Ok((Lines::open(alloc, LIMIT)?, Output::open(alloc)?))
 }
@@ -59,9 +57,9 @@ fn convert<R: Source, W: Sink>(
     source: &mut R,
     sink: &mut W,
 ) -> Result<Status, Failed>
-    requires opened { Stands lines.old (opened (2 ^ 40)) }
+    requires opened { Stands frame_line_at lines.old (opened (2 ^ 40)) }
     requires empty { output.old ≡ [] }
-    ensures { Converts (record {
+    ensures { Converts frame_line_at block_text (record {
       left_before = R.left source.old;
       left_after = R.left source.new;
       ended = R.ended source.new;
@@ -74,7 +72,7 @@ fn convert<R: Source, W: Sink>(
     }) result }
 {
     loop {
-        release(lines, output, sink)?;
+        output.release(sink, lines.holds_line())?;
         match lines.next(source) {
             Ok(Some(line)) => put_frame(output, sink, line.frame, line.gap)?,
             Ok(None) => {
@@ -87,18 +85,6 @@ fn convert<R: Source, W: Sink>(
             }
         }
     }
-}
-
-// Writes what is gathered, unless a further line can be had without reading.
-fn release<W: Sink>(lines: &Lines, output: &mut Output, sink: &mut W) -> Result<(), Failed>
-    ensures ok { OnOk result ((start : Option (List ℕ)) (text : List ℕ) → Wrote start (W.held sink.old) text output.old → Wrote start (W.held sink.new) text output.new) }
-    ensures err { OnErr result ((start : Option (List ℕ)) (text : List ℕ) → Wrote start (W.held sink.old) text output.old → AppendsFront start (W.held sink.new) text) }
-    ensures cause { HasCause (W.faults sink.old) (W.faults sink.new) result }
-{
-    if lines.holds_line() {
-        return Ok(());
-    }
-    output.flush(sink)
 }
 
 // Puts the block lines of a frame and its gap.

@@ -7,6 +7,8 @@ ghost use Rattle.pcs_top.specs.Words.{command_of};
 pub enum Command {
     /// Frame lines become block lines.
     Blocks,
+    /// Block lines become frames.
+    Unblock,
 }
 
 impl Command {
@@ -16,6 +18,7 @@ impl Command {
     {
         match words {
             [_, name] if name.as_str() == "blocks" => Some(Command::Blocks),
+            [_, name] if name.as_str() == "unblock" => Some(Command::Unblock),
             _ => None,
         }
     }

@@ -1,5 +1,6 @@
 // Text that is gathered, and written in large pieces.
-ghost use Rattle.std.specs.Prelude.{◌≡◌, ◌≤◌, ◌+◌, ◌++◌, ◌⊎◌, [], ℕ, List, Option, length, IfOk, OnOk, OnErr};
+ghost use Rattle.std.specs.Prelude.{◌≡◌, ◌≤◌, ◌+◌, ◌*◌, ◌++◌, ◌∷◌, ◌⊎◌, [], ℕ, List, Option, length, IfOk, OnOk, OnErr, vec_len, vec_capacity};
+ghost use Rattle.hex.specs.Hex.{encode_lower};
 ghost use Rattle.pcs_io.specs.Faults.{HasCause};
 ghost use Rattle.pcs_io.specs.Octets.{AppendsFront};
 ghost use Rattle.pcs_top.specs.Writing.{Wrote};
@@ -48,6 +49,19 @@ impl Output {
         Ok(())
     }
 
+    /// Puts two lower-case hexadecimal digits for each octet, and a newline, behind the text.
+    pub fn put_hex_line<W: Sink>(&mut self, sink: &mut W, octets: &[u8]) -> Result<(), Failed>
+        requires { length octets.now ≤ 16384 }
+        ensures ok { OnOk result ((start : Option (List ℕ)) (text : List ℕ) → Wrote start (W.held sink.old) text self.old → Wrote start (W.held sink.new) (text ++ (encode_lower octets.now ++ 10 ∷ [])) self.new) }
+        ensures err { OnErr result ((start : Option (List ℕ)) (text : List ℕ) → Wrote start (W.held sink.old) text self.old → AppendsFront start (W.held sink.new) text) }
+        ensures cause { HasCause (W.faults sink.old) (W.faults sink.new) result }
+    {
+        self.make_room(sink, 2 * octets.len() + 1)?;
+        append_hex(&mut self.text, octets);
+        self.text.push(b'\n').unwrap();
+        Ok(())
+    }
+
     /// Writes the text where there is no room for so many octets behind it.
     pub fn make_room<W: Sink>(&mut self, sink: &mut W, count: usize) -> Result<(), Failed>
         ensures ok { OnOk result ((start : Option (List ℕ)) (text : List ℕ) → Wrote start (W.held sink.old) text self.old → Wrote start (W.held sink.new) text self.new) }
@@ -72,4 +86,28 @@ impl Output {
         self.text.clear();
         Ok(())
     }
+
+    /// Writes the text, unless more can be had without reading.
+    pub fn release<W: Sink>(&mut self, sink: &mut W, more: bool) -> Result<(), Failed>
+        ensures ok { OnOk result ((start : Option (List ℕ)) (text : List ℕ) → Wrote start (W.held sink.old) text self.old → Wrote start (W.held sink.new) text self.new) }
+        ensures err { OnErr result ((start : Option (List ℕ)) (text : List ℕ) → Wrote start (W.held sink.old) text self.old → AppendsFront start (W.held sink.new) text) }
+        ensures cause { HasCause (W.faults sink.old) (W.faults sink.new) result }
+    {
+        if more {
+            return Ok(());
+        }
+        self.flush(sink)
+    }
+}
+
+// Appends two lower-case hexadecimal digits for each octet, for which there is room.
+fn append_hex(text: &mut Vec<u8>, octets: &[u8])
+    requires { vec_len text.old + 2 * length octets.now ≤ vec_capacity text.old }
+    ensures items { text.new.items ≡ text.old.items ++ encode_lower octets.now }
+    ensures length { vec_len text.new ≡ vec_len text.old + 2 * length octets.now }
+    ensures room { vec_capacity text.old ≤ vec_capacity text.new }
+{
+    let start = text.len();
+    text.resize(start + 2 * octets.len(), 0).unwrap();
+    hex::encode_to_slice(octets, &mut text[start..]).unwrap();
 }

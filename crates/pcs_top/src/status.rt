@@ -22,6 +22,9 @@ pub enum Status {
     BadLine { number: u64, kind: Kind },
     /// The input has as many octets as may be taken, or more.
     TooLong,
+    /// The line on the notes couldn't be written whole. The number is that of the status that
+    /// would have stood.
+    NotesFault { instead: u8 },
 }
 
 impl Status {
@@ -37,6 +40,7 @@ impl Status {
             Status::NoMemory => 5,
             Status::BadLine { .. } => 6,
             Status::TooLong => 11,
+            Status::NotesFault { .. } => 12,
         }
     }
 }

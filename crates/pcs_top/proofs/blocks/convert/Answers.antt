@@ -1,22 +1,29 @@
-use Rattle.std.proofs.Common.{ap, arith, ◌≤◌, Err}
+use Rattle.std.proofs.Common.{ap, arith, ◌≤◌, ◌∙◌, Ok, Err}
 use Rattle.std.proofs.lemmas.Result.{err_from_is_err_and}
 use Rattle.pcs_top.specs.Seen.{Seen}
+use Rattle.pcs_io.specs.FrameAnswers.{content}
+use Rattle.pcs_io.specs.FrameLines.{FrameLine}
+use Rattle.pcs_top.specs.Texts.{block_text}
+use Rattle.pcs_top.proofs.LineTexts.{no-lines, one-frame-line}
+use Rattle.pcs_top.proofs.WritingLemmas.{wrote-none}
 use Rattle.pcs_top.proofs.Copying.{copied-start, copied-kept, copied-line, copied-done, copied-fault, line-failed, end-failed, fault-failed, next-line, next-end, next-fault, read-failed, rose-after}
 use Rattle.pcs_top.proofs.blocks.convert.Goals as goal
 
 pub loop-lines-init : goal.loop-lines-init
 loop-lines-init g c = record {
-  copied = copied-start _ _ _ _ c.requires.opened c.requires.empty;
+  copied = copied-start _ _ _ _ _ _ _ c.requires.opened (wrote-none _ _ _ no-lines c.requires.empty) tt;
   reads = omega arith;
   writes = omega arith;
 }
 
 pub loop-lines-preserved : goal.loop-lines-preserved
 loop-lines-preserved g c =
-    let kept = copied-kept _ _ _ _ _ _ _ _ c.loop-lines.invariant.copied c.in_ok-release.ensures.ok in
-    let next = next-line _ _ _ _ _ _ _ c.in-Ok-Some.line c.in-Ok-Some.is c.in-Ok-Some.field-0-is c.next.follows.holds-at-none in
+    let kept = copied-kept _ _ _ _ _ _ _ _ _ _ _ c.loop-lines.invariant.copied c.in_ok-release.ensures.ok in
+    let line : FrameLine = record { gap = c.in-Ok-Some.line.gap; frame = c.in-Ok-Some.line.frame.now } in
+    let next = next-line _ _ _ _ _ _ _ line (ap content c.in-Ok-Some.is ∙ ap (λ p. content (Ok p)) c.in-Ok-Some.field-0-is) c.next.follows.holds-at-none in
     record {
-      copied = copied-line _ _ _ _ _ _ _ _ _ _ _ _ kept next c.in_ok-put_frame-in-Ok-Some.ensures.ok;
+      copied = copied-line _ _ _ _ _ _ _ _ _ _ _ _ _ _ _ _ kept next
+          (λ lines keeps. tt) (λ lines keeps start wrote. rw (one-frame-line lines line) (c.in_ok-put_frame-in-Ok-Some.ensures.ok start (block_text lines) wrote));
       reads = omega (arith, c.next.ensures.later);
       writes = omega (arith, c.release.ensures.cause.later, c.put_frame.ensures.cause.later);
     }
@@ -24,8 +31,9 @@ loop-lines-preserved g c =
 pub returns-in_err-put_frame-in-Ok-Some : goal.returns-in_err-put_frame-in-Ok-Some
 returns-in_err-put_frame-in-Ok-Some g c =
     let exit = err_from_is_err_and c.from_residual-in_err-put_frame-in-Ok-Some.result c.from_residual-in_err-put_frame-in-Ok-Some.ensures.1 in
-    let kept = copied-kept _ _ _ _ _ _ _ _ c.loop-lines.invariant.copied c.in_ok-release.ensures.ok in
-    let next = next-line _ _ _ _ _ _ _ c.in-Ok-Some.line c.in-Ok-Some.is c.in-Ok-Some.field-0-is c.next.follows.holds-at-none in
+    let kept = copied-kept _ _ _ _ _ _ _ _ _ _ _ c.loop-lines.invariant.copied c.in_ok-release.ensures.ok in
+    let line : FrameLine = record { gap = c.in-Ok-Some.line.gap; frame = c.in-Ok-Some.line.frame.now } in
+    let next = next-line _ _ _ _ _ _ _ line (ap content c.in-Ok-Some.is ∙ ap (λ p. content (Ok p)) c.in-Ok-Some.field-0-is) c.next.follows.holds-at-none in
     let later : g.W.Sink.faults c.args.sink.now ≤ g.W.Sink.faults c.release.new.sink = omega (arith, c.release.ensures.cause.later) in
     let seen : Seen = record {
       left_before = g.R.Source.left c.args.source.now;
@@ -38,13 +46,14 @@ returns-in_err-put_frame-in-Ok-Some g c =
       writes_before = g.W.Sink.faults c.args.sink.now;
       writes_after = g.W.Sink.faults c.put_frame.new.sink;
     } in
-    rw exit.1 (line-failed seen _ _ _ _ _ _ kept next (rose-after _ _ _ later c.in_err-put_frame-in-Ok-Some.ensures.cause.failed) c.in_err-put_frame-in-Ok-Some.ensures.err)
+    rw exit.1 (line-failed _ _ _ seen _ _ _ _ _ _ kept next (rose-after _ _ _ later c.in_err-put_frame-in-Ok-Some.ensures.cause.failed)
+    (λ lines keeps start wrote. rw (one-frame-line lines line) (c.in_err-put_frame-in-Ok-Some.ensures.err start (block_text lines) wrote)))
 
 pub returns-in_err-flush-in-Ok-None : goal.returns-in_err-flush-in-Ok-None
 returns-in_err-flush-in-Ok-None g c =
     let exit = err_from_is_err_and c.from_residual-in_err-flush-in-Ok-None.result c.from_residual-in_err-flush-in-Ok-None.ensures.1 in
-    let kept = copied-kept _ _ _ _ _ _ _ _ c.loop-lines.invariant.copied c.in_ok-release.ensures.ok in
-    let next = next-end _ _ _ _ _ _ _ c.in-Ok-None.is c.in-Ok-None.field-0-is c.next.follows.holds-at-none in
+    let kept = copied-kept _ _ _ _ _ _ _ _ _ _ _ c.loop-lines.invariant.copied c.in_ok-release.ensures.ok in
+    let next = next-end _ _ _ _ _ _ _ (ap content c.in-Ok-None.is ∙ ap (λ p. content (Ok p)) c.in-Ok-None.field-0-is) c.next.follows.holds-at-none in
     let later : g.W.Sink.faults c.args.sink.now ≤ g.W.Sink.faults c.release.new.sink = omega (arith, c.release.ensures.cause.later) in
     let seen : Seen = record {
       left_before = g.R.Source.left c.args.source.now;
@@ -57,19 +66,19 @@ returns-in_err-flush-in-Ok-None g c =
       writes_before = g.W.Sink.faults c.args.sink.now;
       writes_after = g.W.Sink.faults c.flush.new.sink;
     } in
-    rw exit.1 (end-failed seen _ _ _ _ _ kept next (rose-after _ _ _ later c.in_err-flush-in-Ok-None.ensures.cause.failed) c.in_err-flush-in-Ok-None.ensures.err)
+    rw exit.1 (end-failed _ _ _ seen _ _ _ _ _ kept next (rose-after _ _ _ later c.in_err-flush-in-Ok-None.ensures.cause.failed) c.in_err-flush-in-Ok-None.ensures.err)
 
 pub returns-in-Ok-None : goal.returns-in-Ok-None
 returns-in-Ok-None g c =
-    let kept = copied-kept _ _ _ _ _ _ _ _ c.loop-lines.invariant.copied c.in_ok-release.ensures.ok in
-    let next = next-end _ _ _ _ _ _ _ c.in-Ok-None.is c.in-Ok-None.field-0-is c.next.follows.holds-at-none in
-    copied-done _ _ _ _ _ _ kept next c.in_ok-flush-in-Ok-None.ensures.ok
+    let kept = copied-kept _ _ _ _ _ _ _ _ _ _ _ c.loop-lines.invariant.copied c.in_ok-release.ensures.ok in
+    let next = next-end _ _ _ _ _ _ _ (ap content c.in-Ok-None.is ∙ ap (λ p. content (Ok p)) c.in-Ok-None.field-0-is) c.next.follows.holds-at-none in
+    copied-done _ _ _ _ _ _ _ _ _ kept next c.in_ok-flush-in-Ok-None.ensures.ok
 
 pub returns-in_err-flush-in-Err : goal.returns-in_err-flush-in-Err
 returns-in_err-flush-in-Err g c =
     let exit = err_from_is_err_and c.from_residual-in_err-flush-in-Err.result c.from_residual-in_err-flush-in-Err.ensures.1 in
-    let kept = copied-kept _ _ _ _ _ _ _ _ c.loop-lines.invariant.copied c.in_ok-release.ensures.ok in
-    let next = next-fault _ _ _ _ _ _ c.in-Err.fault c.in-Err.is c.next.follows.holds-at-none in
+    let kept = copied-kept _ _ _ _ _ _ _ _ _ _ _ c.loop-lines.invariant.copied c.in_ok-release.ensures.ok in
+    let next = next-fault _ _ _ _ _ _ _ c.in-Err.fault (ap content c.in-Err.is) c.next.follows.holds-at-none in
     let later : g.W.Sink.faults c.args.sink.now ≤ g.W.Sink.faults c.release.new.sink = omega (arith, c.release.ensures.cause.later) in
     let seen : Seen = record {
       left_before = g.R.Source.left c.args.source.now;
@@ -82,12 +91,12 @@ returns-in_err-flush-in-Err g c =
       writes_before = g.W.Sink.faults c.args.sink.now;
       writes_after = g.W.Sink.faults c.flush-in-Err.new.sink;
     } in
-    rw exit.1 (fault-failed seen _ _ _ _ _ _ kept next (rose-after _ _ _ later c.in_err-flush-in-Err.ensures.cause.failed) c.in_err-flush-in-Err.ensures.err)
+    rw exit.1 (fault-failed _ _ _ seen _ _ _ _ _ _ kept next (rose-after _ _ _ later c.in_err-flush-in-Err.ensures.cause.failed) c.in_err-flush-in-Err.ensures.err)
 
 pub returns-in-Err : goal.returns-in-Err
 returns-in-Err g c =
-    let kept = copied-kept _ _ _ _ _ _ _ _ c.loop-lines.invariant.copied c.in_ok-release.ensures.ok in
-    let next = next-fault _ _ _ _ _ _ c.in-Err.fault c.in-Err.is c.next.follows.holds-at-none in
-    rw c.from.ensures (copied-fault _ _ _ _ _ _ c.in-Err.fault kept next
-    (λ read. read-failed _ _ _ _ _ _ _ _ _ kept c.loop-lines.invariant.reads (c.in-Err.ensures.read (ap (λ f. Err f) read)))
+    let kept = copied-kept _ _ _ _ _ _ _ _ _ _ _ c.loop-lines.invariant.copied c.in_ok-release.ensures.ok in
+    let next = next-fault _ _ _ _ _ _ _ c.in-Err.fault (ap content c.in-Err.is) c.next.follows.holds-at-none in
+    rw c.from.ensures (copied-fault _ _ _ _ _ _ _ _ _ c.in-Err.fault kept next
+    (λ read. read-failed _ _ _ _ _ _ _ _ _ _ _ _ kept c.loop-lines.invariant.reads (c.in-Err.ensures.read (ap (λ f. Err f) read)))
     c.in_ok-flush-in-Err.ensures.ok)

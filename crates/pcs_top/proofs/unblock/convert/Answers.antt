@@ -1,0 +1,99 @@
+use Rattle.std.proofs.Common.{ap, arith, ◌≤◌, ◌∙◌, Ok, Err}
+use Rattle.std.proofs.lemmas.Result.{err_from_is_err_and}
+use Rattle.pcs_top.specs.Seen.{Seen}
+use Rattle.pcs_top.proofs.LineTexts.{no-block-lines}
+use Rattle.pcs_top.proofs.WritingLemmas.{wrote-none}
+use Rattle.pcs_top.proofs.Copying.{copied-start, copied-kept, copied-line, copied-done, copied-fault, line-failed, end-failed, fault-failed, next-line, next-end, next-fault, read-failed, rose-after}
+use Rattle.pcs_top.proofs.unblock.convert.Goals as goal
+
+pub loop-lines-init : goal.loop-lines-init
+loop-lines-init g c = record {
+  copied = copied-start _ _ _ _ _ _ _ c.requires.opened (wrote-none _ _ _ no-block-lines c.requires.empty) c.requires.none_taken;
+  reads = omega arith;
+  writes = omega arith;
+}
+
+pub loop-lines-preserved : goal.loop-lines-preserved
+loop-lines-preserved g c =
+    let kept = copied-kept _ _ _ _ _ _ _ _ _ _ _ c.loop-lines.invariant.copied c.in_ok-release.ensures.ok in
+    let line = c.in-Ok-Some.line in
+    let next = next-line _ _ _ _ _ _ _ line (c.in-Ok-Some.is ∙ ap (λ p. Ok p) c.in-Ok-Some.field-0-is) c.next.ensures.answers in
+    record {
+      copied = copied-line _ _ _ _ _ _ _ _ _ _ _ _ _ _ _ _ kept next
+          c.put_line.ensures.taken c.in_ok-put_line-in-Ok-Some.ensures.ok;
+      reads = omega (arith, c.next.ensures.later);
+      writes = omega (arith, c.release.ensures.cause.later, c.put_line.ensures.cause.later);
+    }
+
+pub returns-in_err-put_line-in-Ok-Some : goal.returns-in_err-put_line-in-Ok-Some
+returns-in_err-put_line-in-Ok-Some g c =
+    let exit = err_from_is_err_and c.from_residual-in_err-put_line-in-Ok-Some.result c.from_residual-in_err-put_line-in-Ok-Some.ensures.1 in
+    let kept = copied-kept _ _ _ _ _ _ _ _ _ _ _ c.loop-lines.invariant.copied c.in_ok-release.ensures.ok in
+    let line = c.in-Ok-Some.line in
+    let next = next-line _ _ _ _ _ _ _ line (c.in-Ok-Some.is ∙ ap (λ p. Ok p) c.in-Ok-Some.field-0-is) c.next.ensures.answers in
+    let later : g.W.Sink.faults c.args.sink.now ≤ g.W.Sink.faults c.release.new.sink = omega (arith, c.release.ensures.cause.later) in
+    let seen : Seen = record {
+      left_before = g.R.Source.left c.args.source.now;
+      left_after = g.R.Source.left c.next.new.source;
+      ended = g.R.Source.ended c.next.new.source;
+      reads_before = g.R.Source.faults c.args.source.now;
+      reads_after = g.R.Source.faults c.next.new.source;
+      held_before = g.W.Sink.held c.args.sink.now;
+      held_after = g.W.Sink.held c.put_line.new.sink;
+      writes_before = g.W.Sink.faults c.args.sink.now;
+      writes_after = g.W.Sink.faults c.put_line.new.sink;
+    } in
+    rw exit.1 (line-failed _ _ _ seen _ _ _ _ _ _ kept next (rose-after _ _ _ later c.in_err-put_line-in-Ok-Some.ensures.cause.failed)
+    c.in_err-put_line-in-Ok-Some.ensures.err)
+
+pub returns-in_err-flush-in-Ok-None : goal.returns-in_err-flush-in-Ok-None
+returns-in_err-flush-in-Ok-None g c =
+    let exit = err_from_is_err_and c.from_residual-in_err-flush-in-Ok-None.result c.from_residual-in_err-flush-in-Ok-None.ensures.1 in
+    let kept = copied-kept _ _ _ _ _ _ _ _ _ _ _ c.loop-lines.invariant.copied c.in_ok-release.ensures.ok in
+    let next = next-end _ _ _ _ _ _ _ (c.in-Ok-None.is ∙ ap (λ p. Ok p) c.in-Ok-None.field-0-is) c.next.ensures.answers in
+    let later : g.W.Sink.faults c.args.sink.now ≤ g.W.Sink.faults c.release.new.sink = omega (arith, c.release.ensures.cause.later) in
+    let seen : Seen = record {
+      left_before = g.R.Source.left c.args.source.now;
+      left_after = g.R.Source.left c.next.new.source;
+      ended = g.R.Source.ended c.next.new.source;
+      reads_before = g.R.Source.faults c.args.source.now;
+      reads_after = g.R.Source.faults c.next.new.source;
+      held_before = g.W.Sink.held c.args.sink.now;
+      held_after = g.W.Sink.held c.flush.new.sink;
+      writes_before = g.W.Sink.faults c.args.sink.now;
+      writes_after = g.W.Sink.faults c.flush.new.sink;
+    } in
+    rw exit.1 (end-failed _ _ _ seen _ _ _ _ _ kept next (rose-after _ _ _ later c.in_err-flush-in-Ok-None.ensures.cause.failed) c.in_err-flush-in-Ok-None.ensures.err)
+
+pub returns-in-Ok-None : goal.returns-in-Ok-None
+returns-in-Ok-None g c =
+    let kept = copied-kept _ _ _ _ _ _ _ _ _ _ _ c.loop-lines.invariant.copied c.in_ok-release.ensures.ok in
+    let next = next-end _ _ _ _ _ _ _ (c.in-Ok-None.is ∙ ap (λ p. Ok p) c.in-Ok-None.field-0-is) c.next.ensures.answers in
+    copied-done _ _ _ _ _ _ _ _ _ kept next c.in_ok-flush-in-Ok-None.ensures.ok
+
+pub returns-in_err-flush-in-Err : goal.returns-in_err-flush-in-Err
+returns-in_err-flush-in-Err g c =
+    let exit = err_from_is_err_and c.from_residual-in_err-flush-in-Err.result c.from_residual-in_err-flush-in-Err.ensures.1 in
+    let kept = copied-kept _ _ _ _ _ _ _ _ _ _ _ c.loop-lines.invariant.copied c.in_ok-release.ensures.ok in
+    let next = next-fault _ _ _ _ _ _ _ c.in-Err.fault (c.in-Err.is) c.next.ensures.answers in
+    let later : g.W.Sink.faults c.args.sink.now ≤ g.W.Sink.faults c.release.new.sink = omega (arith, c.release.ensures.cause.later) in
+    let seen : Seen = record {
+      left_before = g.R.Source.left c.args.source.now;
+      left_after = g.R.Source.left c.next.new.source;
+      ended = g.R.Source.ended c.next.new.source;
+      reads_before = g.R.Source.faults c.args.source.now;
+      reads_after = g.R.Source.faults c.next.new.source;
+      held_before = g.W.Sink.held c.args.sink.now;
+      held_after = g.W.Sink.held c.flush-in-Err.new.sink;
+      writes_before = g.W.Sink.faults c.args.sink.now;
+      writes_after = g.W.Sink.faults c.flush-in-Err.new.sink;
+    } in
+    rw exit.1 (fault-failed _ _ _ seen _ _ _ _ _ _ kept next (rose-after _ _ _ later c.in_err-flush-in-Err.ensures.cause.failed) c.in_err-flush-in-Err.ensures.err)
+
+pub returns-in-Err : goal.returns-in-Err
+returns-in-Err g c =
+    let kept = copied-kept _ _ _ _ _ _ _ _ _ _ _ c.loop-lines.invariant.copied c.in_ok-release.ensures.ok in
+    let next = next-fault _ _ _ _ _ _ _ c.in-Err.fault (c.in-Err.is) c.next.ensures.answers in
+    rw c.from.ensures (copied-fault _ _ _ _ _ _ _ _ _ c.in-Err.fault kept next
+    (λ read. read-failed _ _ _ _ _ _ _ _ _ _ _ _ kept c.loop-lines.invariant.reads (c.in-Err.ensures.read (ap (λ f. Err f) read)))
+    c.in_ok-flush-in-Err.ensures.ok)
