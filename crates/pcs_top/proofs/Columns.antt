@@ -10,7 +10,7 @@ use Rattle.mac_columns.specs.Sending.{Sending, Stands, sending, sent}
 use Rattle.block66.specs.Blocks.{block_of}
 use Rattle.block66.specs.declared.Block.{Block}
 use Rattle.pcs_top.specs.Texts.{block_line, column_text}
-use Rattle.pcs_top.specs.Writing.{Wrote}
+use Rattle.pcs_top.specs.Writing.{Wrote, Puts, Stays, BreaksOff, BreaksOffBefore}
 use Rattle.pcs_top.proofs.WritingLemmas.{front-more}
 
 column_text-append : (xs ys : List Column) → column_text (xs ++ ys) ≡ column_text xs ++ column_text ys
@@ -37,14 +37,14 @@ at-none (y ∷ ys) (suc n) e = ap (λ ts. y ∷ ts) (at-none ys n e)
 pub record Putting (frame : List ℕ) (gap : ℕ) (left : List Column) (before now : Option (List ℕ)) (old new : List ℕ) : Type 0 where
   pub given : ℕ
   pub stands : Stands left (record { frame = frame; gap = gap; given = given })
-  pub wrote : (start : Option (List ℕ)) (text : List ℕ) → Wrote start before text old → Wrote start now (text ++ column_text (take given (columns_of frame gap))) new
+  pub wrote : Puts before old (column_text (take given (columns_of frame gap))) now new
 
 no-columns : (columns : List Column) (text : List ℕ) → text ++ column_text (take 0 columns) ≡ text
 unfolding column_text
 no-columns columns text = append-nil text
 
 pub putting-start : (frame : List ℕ) (gap : ℕ) (left : List Column) (before now : Option (List ℕ)) (old new : List ℕ) → Stands left (sending frame gap)
-    → ((start : Option (List ℕ)) (text : List ℕ) → Wrote start before text old → Wrote start now text new) → Putting frame gap left before now old new
+    → Stays before old now new → Putting frame gap left before now old new
 putting-start frame gap left before now old new stands wrote = record {
   given = 0;
   stands = stands;
@@ -56,7 +56,7 @@ pub putting-column : (frame : List ℕ) (gap : ℕ) (left rest : List Column) (b
     → Putting frame gap left before mid old pending
     → ((h : Sending) → Stands left h → Some column ≡ slice_get (columns_of h.frame h.gap) h.given) → ((h : Sending) → Stands left h → Stands rest (sent h (Some column)))
     → block ≡ block_of column → octets ≡ block_line block
-    → ((start : Option (List ℕ)) (text : List ℕ) → Wrote start mid text pending → Wrote start now (text ++ octets) new)
+    → Puts mid pending octets now new
     → Putting frame gap rest before now old new
 putting-column frame gap left rest before mid now old pending new octets column block p at on is line wrote = record {
   given = p.given + 1;
@@ -73,14 +73,14 @@ putting-column frame gap left rest before mid now old pending new octets column 
 -- all columns are given
 pub putting-end : (frame : List ℕ) (gap : ℕ) (left : List Column) (before now : Option (List ℕ)) (old new : List ℕ) → Putting frame gap left before now old new
     → ((h : Sending) → Stands left h → None ≡ slice_get (columns_of h.frame h.gap) h.given)
-    → (start : Option (List ℕ)) (text : List ℕ) → Wrote start before text old → Wrote start now (text ++ column_text (columns_of frame gap)) new
+    → Puts before old (column_text (columns_of frame gap)) now new
 putting-end frame gap left before now old new p at start text w =
     subst (λ cs. Wrote start now (text ++ column_text cs) new) (at-none (columns_of frame gap) p.given (at (record { frame = frame; gap = gap; given = p.given }) p.stands)) (p.wrote start text w)
 
 -- a write failed
 pub putting-failed : (frame : List ℕ) (gap : ℕ) (left : List Column) (before mid now : Option (List ℕ)) (old pending : List ℕ) → Putting frame gap left before mid old pending
-    → ((start : Option (List ℕ)) (text : List ℕ) → Wrote start mid text pending → AppendsFront start now text)
-    → (start : Option (List ℕ)) (text : List ℕ) → Wrote start before text old → AppendsFront start now (text ++ column_text (columns_of frame gap))
+    → BreaksOffBefore mid pending now
+    → BreaksOff before old (column_text (columns_of frame gap)) now
 putting-failed frame gap left before mid now old pending p failed start text w =
     let columns = columns_of frame gap in
     let whole : column_text (take p.given columns) ++ column_text (drop p.given columns) ≡ column_text columns =

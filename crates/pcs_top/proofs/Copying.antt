@@ -13,7 +13,7 @@ use Rattle.pcs_io.specs.declared.reader.Standing.TheVariants.{Going, Failed}
 use Rattle.pcs_io.proofs.Told.{consumes-append, consumes-none, takes-after, takes-consumed}
 use Rattle.pcs_top.specs.Statuses.{status_of}
 use Rattle.pcs_top.specs.Seen.{Seen, TookAll, Written, ReadFailed, WriteFailed}
-use Rattle.pcs_top.specs.Writing.{Wrote}
+use Rattle.pcs_top.specs.Writing.{Wrote, Stays, BreaksOffBefore}
 use Rattle.pcs_top.specs.LineCommand.{Converted, IsRefused}
 use Rattle.pcs_top.specs.declared.status.Status.TheVariants.{Done, WriteFault}
 use Rattle.pcs_top.proofs.WritingLemmas.{wrote-all}
@@ -105,7 +105,7 @@ module _ {X P : Type 0} (line_at : List ℕ → LineAt X) (text_of : List X → 
   -- what is pending may be written at any time
   pub copied-kept : (Keeps : List X → Type 0) (lines : ReaderState P) (before now held_before held_mid held_now : Option (List ℕ)) (old new : List ℕ)
       → Copied Keeps lines before now held_before held_mid old
-      → ((start : Option (List ℕ)) (text : List ℕ) → Wrote start held_mid text old → Wrote start held_now text new) → Copied Keeps lines before now held_before held_now new
+      → Stays held_mid old held_now new → Copied Keeps lines before now held_before held_now new
   copied-kept Keeps lines before now held_before held_mid held_now old new c kept = record {
     octets = c.octets;
     answered = c.answered;
@@ -140,7 +140,7 @@ module _ {X P : Type 0} (line_at : List ℕ → LineAt X) (text_of : List X → 
 
   flushed-text : (Keeps : List X → Type 0) (seen : Seen) (old : ReaderState P) (mid held_mid : Option (List ℕ)) (pending : List ℕ)
       → (c : Copied Keeps old seen.left_before mid seen.held_before held_mid pending)
-      → ((start : Option (List ℕ)) (text : List ℕ) → Wrote start held_mid text pending → Wrote start seen.held_after text []) → Written seen (text_of c.answered)
+      → Stays held_mid pending seen.held_after [] → Written seen (text_of c.answered)
   flushed-text Keeps seen old mid held_mid pending c flushed =
       all-written seen.held_before seen.held_after (text_of c.answered)
       (wrote-all seen.held_before seen.held_after (text_of c.answered) (flushed seen.held_before (text_of c.answered) c.wrote))
@@ -148,7 +148,7 @@ module _ {X P : Type 0} (line_at : List ℕ → LineAt X) (text_of : List X → 
   -- the end of the input between two lines
   pub copied-done : (Keeps : List X → Type 0) (seen : Seen) (old new : ReaderState P) (mid held_mid : Option (List ℕ)) (pending : List ℕ)
       → Copied Keeps old seen.left_before mid seen.held_before held_mid pending → Nexts line_at old new mid seen.left_after seen.ended (Ok None)
-      → ((start : Option (List ℕ)) (text : List ℕ) → Wrote start held_mid text pending → Wrote start seen.held_after text [])
+      → Stays held_mid pending seen.held_after []
       → Converted line_at text_of seen Done
   copied-done Keeps seen old new mid held_mid pending c n flushed =
       let t = tells Keeps old new seen.left_before mid seen.left_after seen.held_before held_mid pending seen.ended (Ok None) c n in
@@ -158,7 +158,7 @@ module _ {X P : Type 0} (line_at : List ℕ → LineAt X) (text_of : List X → 
   pub copied-fault : (Keeps : List X → Type 0) (seen : Seen) (old new : ReaderState P) (mid held_mid : Option (List ℕ)) (pending : List ℕ) (fault : InFault)
       → Copied Keeps old seen.left_before mid seen.held_before held_mid pending → Nexts line_at old new mid seen.left_after seen.ended (Err fault)
       → (fault ≡ in_fault.Read → ReadFailed seen)
-      → ((start : Option (List ℕ)) (text : List ℕ) → Wrote start held_mid text pending → Wrote start seen.held_after text [])
+      → Stays held_mid pending seen.held_after []
       → Converted line_at text_of seen (status_of fault)
   copied-fault Keeps seen old new mid held_mid pending in_fault.Read c n rose flushed =
       let t = tells Keeps old new seen.left_before mid seen.left_after seen.held_before held_mid pending seen.ended (Err in_fault.Read) c n in
@@ -173,7 +173,7 @@ module _ {X P : Type 0} (line_at : List ℕ → LineAt X) (text_of : List X → 
   -- before the next line is read
   pub copied-failed : (Keeps : List X → Type 0) (seen : Seen) (lines : ReaderState P) (held_mid : Option (List ℕ)) (pending : List ℕ)
       → Copied Keeps lines seen.left_before seen.left_after seen.held_before held_mid pending → WriteFailed seen
-      → ((start : Option (List ℕ)) (text : List ℕ) → Wrote start held_mid text pending → AppendsFront start seen.held_after text)
+      → BreaksOffBefore held_mid pending seen.held_after
       → Converted line_at text_of seen WriteFault
   copied-failed Keeps seen lines held_mid pending c rose front =
       failed line_at text_of seen c.octets c.answered lines.buffer.unused rose (takes-consumed seen.left_before seen.left_after c.octets c.took) c.stands.unused
@@ -192,7 +192,7 @@ module _ {X P : Type 0} (line_at : List ℕ → LineAt X) (text_of : List X → 
   -- at the end
   pub end-failed : (Keeps : List X → Type 0) (seen : Seen) (old new : ReaderState P) (mid held_mid : Option (List ℕ)) (pending : List ℕ)
       → Copied Keeps old seen.left_before mid seen.held_before held_mid pending → Nexts line_at old new mid seen.left_after seen.ended (Ok None) → WriteFailed seen
-      → ((start : Option (List ℕ)) (text : List ℕ) → Wrote start held_mid text pending → AppendsFront start seen.held_after text)
+      → BreaksOffBefore held_mid pending seen.held_after
       → Converted line_at text_of seen WriteFault
   end-failed Keeps seen old new mid held_mid pending c n rose front =
       let t = tells Keeps old new seen.left_before mid seen.left_after seen.held_before held_mid pending seen.ended (Ok None) c n in
@@ -201,7 +201,7 @@ module _ {X P : Type 0} (line_at : List ℕ → LineAt X) (text_of : List X → 
 
   pub fault-failed : (Keeps : List X → Type 0) (seen : Seen) (old new : ReaderState P) (mid held_mid : Option (List ℕ)) (pending : List ℕ) (fault : InFault)
       → Copied Keeps old seen.left_before mid seen.held_before held_mid pending → Nexts line_at old new mid seen.left_after seen.ended (Err fault) → WriteFailed seen
-      → ((start : Option (List ℕ)) (text : List ℕ) → Wrote start held_mid text pending → AppendsFront start seen.held_after text)
+      → BreaksOffBefore held_mid pending seen.held_after
       → Converted line_at text_of seen WriteFault
   fault-failed Keeps seen old new mid held_mid pending fault c n rose front =
       let t = tells Keeps old new seen.left_before mid seen.left_after seen.held_before held_mid pending seen.ended (Err fault) c n in

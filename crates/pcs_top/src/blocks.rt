@@ -1,12 +1,11 @@
 // Frame lines become block lines.
-ghost use Rattle.std.specs.Prelude.{◌≡◌, ◌≤◌, ◌^◌, ◌++◌, [], ℕ, List, Option, length, IfOk, OnOk, OnErr, MatchResult};
+ghost use Rattle.std.specs.Prelude.{◌≡◌, ◌≤◌, ◌^◌, [], length, IfOk, OnOk, OnErr};
 ghost use Rattle.pcs_io.specs.Faults.{HasCause};
-ghost use Rattle.pcs_io.specs.Octets.{AppendsFront};
 ghost use Rattle.pcs_io.specs.FrameLines.{frame_line_at};
 ghost use Rattle.pcs_io.specs.Histories.{Stands, opened};
 ghost use Rattle.pcs_top.specs.LineCommand.{Converted, Converts};
 ghost use Rattle.pcs_top.specs.Texts.{block_line, block_text, column_text};
-ghost use Rattle.pcs_top.specs.Writing.{Wrote};
+ghost use Rattle.pcs_top.specs.Writing.{Puts, BreaksOff};
 ghost use Rattle.mac_columns.specs.Columns.{columns_of};
 
 use crate::output::Output;
@@ -95,10 +94,8 @@ fn put_frame<W: Sink>(
     gap: u32,
 ) -> Result<(), Failed>
     requires { length frame.now ≤ 16384 }
-    ensures ok { OnOk result ((start : Option (List ℕ)) (text : List ℕ) → Wrote start (W.held sink.old) text output.old
-        → Wrote start (W.held sink.new) (text ++ column_text (columns_of frame.now gap)) output.new) }
-    ensures err { OnErr result ((start : Option (List ℕ)) (text : List ℕ) → Wrote start (W.held sink.old) text output.old
-        → AppendsFront start (W.held sink.new) (text ++ column_text (columns_of frame.now gap))) }
+    ensures ok { OnOk result (Puts (W.held sink.old) output.old (column_text (columns_of frame.now gap)) (W.held sink.new) output.new) }
+    ensures err { OnErr result (BreaksOff (W.held sink.old) output.old (column_text (columns_of frame.now gap)) (W.held sink.new)) }
     ensures cause { HasCause (W.faults sink.old) (W.faults sink.new) result }
 {
     output.make_room(sink, LINE * (2 + frame.len() / 8 + gap as usize))?;
