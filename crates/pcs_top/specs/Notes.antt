@@ -37,6 +37,14 @@ pub record Heard : Type 0 where
   pub writes_before : ℕ
   pub writes_after : ℕ
 
+abbrev pub heard : {N : Type 0} → (N → Option (List ℕ)) → (N → ℕ) → N → N → Heard
+heard held writes before after = record {
+  held_before = held before;
+  held_after = held after;
+  writes_before = writes before;
+  writes_after = writes after;
+}
+
 -- The outcome, and the status that is answered: `Done` writes nothing. Of any other outcome the line is written whole, where the notes
 -- tell; or a write of the notes failed, and a front of the line is written.
 abbrev pub Noted : Status → Heard → Status → Type 0

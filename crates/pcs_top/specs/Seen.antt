@@ -15,6 +15,20 @@ pub record Seen : Type 0 where
   pub writes_before : ℕ
   pub writes_after : ℕ
 
+-- by the meanings of the source's and the sink's types, and their values before and after
+abbrev pub seen : {R W : Type 0} → (R → Option (List ℕ)) → (R → Bool) → (R → ℕ) → (W → Option (List ℕ)) → (W → ℕ) → R → R → W → W → Seen
+seen left ended reads held writes source_before source_after sink_before sink_after = record {
+  left_before = left source_before;
+  left_after = left source_after;
+  ended = ended source_after;
+  reads_before = reads source_before;
+  reads_after = reads source_after;
+  held_before = held sink_before;
+  held_after = held sink_after;
+  writes_before = writes sink_before;
+  writes_after = writes sink_after;
+}
+
 -- these octets were taken, where the source tells before and after
 abbrev pub Took : Seen → List ℕ → Type 0
 Took seen octets = TakesWhereTold seen.left_before seen.left_after octets

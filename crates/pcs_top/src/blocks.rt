@@ -3,6 +3,7 @@ ghost use Rattle.std.specs.Prelude.{◌≡◌, ◌≤◌, ◌^◌, [], length, I
 ghost use Rattle.pcs_io.specs.Faults.{HasCause};
 ghost use Rattle.pcs_io.specs.FrameLines.{frame_line_at};
 ghost use Rattle.pcs_io.specs.Histories.{Stands, opened};
+ghost use Rattle.pcs_top.specs.Seen.{seen};
 ghost use Rattle.pcs_top.specs.LineCommand.{Converted, Converts};
 ghost use Rattle.pcs_top.specs.Texts.{block_line, block_text, column_text};
 ghost use Rattle.pcs_top.specs.Writing.{Puts, BreaksOff};
@@ -20,17 +21,8 @@ const LINE: usize = 20;
 
 /// Reads frame lines and writes their block lines.
 pub fn blocks<R: Source, W: Sink>(alloc: Global, source: &mut R, sink: &mut W) -> Status
-    ensures { Converted frame_line_at block_text (record {
-      left_before = R.left source.old;
-      left_after = R.left source.new;
-      ended = R.ended source.new;
-      reads_before = R.faults source.old;
-      reads_after = R.faults source.new;
-      held_before = W.held sink.old;
-      held_after = W.held sink.new;
-      writes_before = W.faults sink.old;
-      writes_after = W.faults sink.new;
-    }) result }
+    ensures { Converted frame_line_at block_text
+        (seen R.left R.ended R.faults W.held W.faults source.old source.new sink.old sink.new) result }
 {
     match open(alloc) {
         Ok((mut lines, mut output)) => match convert(&mut lines, &mut output, source, sink) {
@@ -58,17 +50,8 @@ fn convert<R: Source, W: Sink>(
 ) -> Result<Status, Failed>
     requires opened { Stands frame_line_at lines.old (opened (2 ^ 40)) }
     requires empty { output.old ≡ [] }
-    ensures { Converts frame_line_at block_text (record {
-      left_before = R.left source.old;
-      left_after = R.left source.new;
-      ended = R.ended source.new;
-      reads_before = R.faults source.old;
-      reads_after = R.faults source.new;
-      held_before = W.held sink.old;
-      held_after = W.held sink.new;
-      writes_before = W.faults sink.old;
-      writes_after = W.faults sink.new;
-    }) result }
+    ensures { Converts frame_line_at block_text
+        (seen R.left R.ended R.faults W.held W.faults source.old source.new sink.old sink.new) result }
 {
     loop {
         output.release(sink, lines.holds_line())?;

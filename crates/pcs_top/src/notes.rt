@@ -1,6 +1,6 @@
 // The line on the notes.
 ghost use Rattle.std.specs.Prelude.{◌≡◌, ◌≤◌, ◌+◌, ◌++◌, length};
-ghost use Rattle.pcs_top.specs.Notes.{kind_text, note_text, Noted};
+ghost use Rattle.pcs_top.specs.Notes.{heard, kind_text, note_text, Noted};
 
 use crate::Status;
 use arrayvec::ArrayString;
@@ -9,12 +9,7 @@ use pcs_io::{Kind, Sink, put_all};
 
 /// Writes the line of the outcome, and answers the status of the run.
 pub fn note<N: Sink>(notes: &mut N, outcome: Status) -> Status
-    ensures { Noted outcome (record {
-      held_before = N.held notes.old;
-      held_after = N.held notes.new;
-      writes_before = N.faults notes.old;
-      writes_after = N.faults notes.new;
-    }) result }
+    ensures { Noted outcome (heard N.held N.faults notes.old notes.new) result }
 {
     if outcome == Status::Done {
         return outcome;

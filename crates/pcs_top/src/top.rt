@@ -1,6 +1,8 @@
 // The top call.
 ghost use Rattle.std.specs.Prelude.{◌≡◌, map, string_bytes};
 ghost use Rattle.pcs_top.specs.Words.{command_of};
+ghost use Rattle.pcs_top.specs.Seen.{seen};
+ghost use Rattle.pcs_top.specs.Notes.{heard};
 ghost use Rattle.pcs_top.specs.Top.{Answers, Runs, IsComplete};
 
 use crate::blocks::blocks;
@@ -20,38 +22,12 @@ pub fn run<R: Source, W: Sink, N: Sink>(
     sink: &mut W,
     notes: &mut N,
 ) -> Status
-    ensures answers { Runs (command_of (map string_bytes words.items)) (record {
-      left_before = R.left source.old;
-      left_after = R.left source.new;
-      ended = R.ended source.new;
-      reads_before = R.faults source.old;
-      reads_after = R.faults source.new;
-      held_before = W.held sink.old;
-      held_after = W.held sink.new;
-      writes_before = W.faults sink.old;
-      writes_after = W.faults sink.new;
-    }) (record {
-      held_before = N.held notes.old;
-      held_after = N.held notes.new;
-      writes_before = N.faults notes.old;
-      writes_after = N.faults notes.new;
-    }) result }
-    ensures complete { IsComplete (command_of (map string_bytes words.items)) (record {
-      left_before = R.left source.old;
-      left_after = R.left source.new;
-      ended = R.ended source.new;
-      reads_before = R.faults source.old;
-      reads_after = R.faults source.new;
-      held_before = W.held sink.old;
-      held_after = W.held sink.new;
-      writes_before = W.faults sink.old;
-      writes_after = W.faults sink.new;
-    }) (record {
-      held_before = N.held notes.old;
-      held_after = N.held notes.new;
-      writes_before = N.faults notes.old;
-      writes_after = N.faults notes.new;
-    }) result }
+    ensures answers { Runs (command_of (map string_bytes words.items))
+        (seen R.left R.ended R.faults W.held W.faults source.old source.new sink.old sink.new)
+        (heard N.held N.faults notes.old notes.new) result }
+    ensures complete { IsComplete (command_of (map string_bytes words.items))
+        (seen R.left R.ended R.faults W.held W.faults source.old source.new sink.old sink.new)
+        (heard N.held N.faults notes.old notes.new) result }
 {
     let outcome = perform(alloc, &words, source, sink);
     note(notes, outcome)
@@ -64,17 +40,8 @@ fn perform<R: Source, W: Sink>(
     source: &mut R,
     sink: &mut W,
 ) -> Status
-    ensures { Answers (command_of (map string_bytes words.now)) (record {
-      left_before = R.left source.old;
-      left_after = R.left source.new;
-      ended = R.ended source.new;
-      reads_before = R.faults source.old;
-      reads_after = R.faults source.new;
-      held_before = W.held sink.old;
-      held_after = W.held sink.new;
-      writes_before = W.faults sink.old;
-      writes_after = W.faults sink.new;
-    }) result }
+    ensures { Answers (command_of (map string_bytes words.now))
+        (seen R.left R.ended R.faults W.held W.faults source.old source.new sink.old sink.new) result }
 {
     match Command::from_words(words) {
         Some(Command::Blocks) => blocks(alloc, source, sink),

@@ -1,6 +1,6 @@
 use Rattle.std.proofs.Common.{ap, arith, ◌≤◌, ◌∙◌, Ok, Err}
 use Rattle.std.proofs.lemmas.Result.{err_from_is_err_and}
-use Rattle.pcs_top.specs.Seen.{Seen}
+use Rattle.pcs_top.specs.Seen.{seen}
 use Rattle.pcs_io.specs.FrameAnswers.{content}
 use Rattle.pcs_io.specs.FrameLines.{FrameLine}
 use Rattle.pcs_top.specs.Texts.{block_text}
@@ -35,18 +35,9 @@ returns-in_err-put_frame-in-Ok-Some g c =
     let line : FrameLine = record { gap = c.in-Ok-Some.line.gap; frame = c.in-Ok-Some.line.frame.now } in
     let next = next-line _ _ _ _ _ _ _ line (ap content c.in-Ok-Some.is ∙ ap (λ p. content (Ok p)) c.in-Ok-Some.field-0-is) c.next.follows.holds-at-none in
     let later : g.W.Sink.faults c.args.sink.now ≤ g.W.Sink.faults c.release.new.sink = omega (arith, c.release.ensures.cause.later) in
-    let seen : Seen = record {
-      left_before = g.R.Source.left c.args.source.now;
-      left_after = g.R.Source.left c.next.new.source;
-      ended = g.R.Source.ended c.next.new.source;
-      reads_before = g.R.Source.faults c.args.source.now;
-      reads_after = g.R.Source.faults c.next.new.source;
-      held_before = g.W.Sink.held c.args.sink.now;
-      held_after = g.W.Sink.held c.put_frame.new.sink;
-      writes_before = g.W.Sink.faults c.args.sink.now;
-      writes_after = g.W.Sink.faults c.put_frame.new.sink;
-    } in
-    rw exit.1 (line-failed _ _ _ seen _ _ _ _ _ _ kept next (rose-after _ _ _ later c.in_err-put_frame-in-Ok-Some.ensures.cause.failed)
+    let around = seen g.R.Source.left g.R.Source.ended g.R.Source.faults g.W.Sink.held g.W.Sink.faults
+    c.args.source.now c.next.new.source c.args.sink.now c.put_frame.new.sink in
+    rw exit.1 (line-failed _ _ _ around _ _ _ _ _ _ kept next (rose-after _ _ _ later c.in_err-put_frame-in-Ok-Some.ensures.cause.failed)
     (λ lines keeps start wrote. rw (one-frame-line lines line) (c.in_err-put_frame-in-Ok-Some.ensures.err start (block_text lines) wrote)))
 
 pub returns-in_err-flush-in-Ok-None : goal.returns-in_err-flush-in-Ok-None
@@ -55,18 +46,9 @@ returns-in_err-flush-in-Ok-None g c =
     let kept = copied-kept _ _ _ _ _ _ _ _ _ _ _ c.loop-lines.invariant.copied c.in_ok-release.ensures.ok in
     let next = next-end _ _ _ _ _ _ _ (ap content c.in-Ok-None.is ∙ ap (λ p. content (Ok p)) c.in-Ok-None.field-0-is) c.next.follows.holds-at-none in
     let later : g.W.Sink.faults c.args.sink.now ≤ g.W.Sink.faults c.release.new.sink = omega (arith, c.release.ensures.cause.later) in
-    let seen : Seen = record {
-      left_before = g.R.Source.left c.args.source.now;
-      left_after = g.R.Source.left c.next.new.source;
-      ended = g.R.Source.ended c.next.new.source;
-      reads_before = g.R.Source.faults c.args.source.now;
-      reads_after = g.R.Source.faults c.next.new.source;
-      held_before = g.W.Sink.held c.args.sink.now;
-      held_after = g.W.Sink.held c.flush.new.sink;
-      writes_before = g.W.Sink.faults c.args.sink.now;
-      writes_after = g.W.Sink.faults c.flush.new.sink;
-    } in
-    rw exit.1 (end-failed _ _ _ seen _ _ _ _ _ kept next (rose-after _ _ _ later c.in_err-flush-in-Ok-None.ensures.cause.failed) c.in_err-flush-in-Ok-None.ensures.err)
+    let around = seen g.R.Source.left g.R.Source.ended g.R.Source.faults g.W.Sink.held g.W.Sink.faults
+    c.args.source.now c.next.new.source c.args.sink.now c.flush.new.sink in
+    rw exit.1 (end-failed _ _ _ around _ _ _ _ _ kept next (rose-after _ _ _ later c.in_err-flush-in-Ok-None.ensures.cause.failed) c.in_err-flush-in-Ok-None.ensures.err)
 
 pub returns-in-Ok-None : goal.returns-in-Ok-None
 returns-in-Ok-None g c =
@@ -80,18 +62,9 @@ returns-in_err-flush-in-Err g c =
     let kept = copied-kept _ _ _ _ _ _ _ _ _ _ _ c.loop-lines.invariant.copied c.in_ok-release.ensures.ok in
     let next = next-fault _ _ _ _ _ _ _ c.in-Err.fault (ap content c.in-Err.is) c.next.follows.holds-at-none in
     let later : g.W.Sink.faults c.args.sink.now ≤ g.W.Sink.faults c.release.new.sink = omega (arith, c.release.ensures.cause.later) in
-    let seen : Seen = record {
-      left_before = g.R.Source.left c.args.source.now;
-      left_after = g.R.Source.left c.next.new.source;
-      ended = g.R.Source.ended c.next.new.source;
-      reads_before = g.R.Source.faults c.args.source.now;
-      reads_after = g.R.Source.faults c.next.new.source;
-      held_before = g.W.Sink.held c.args.sink.now;
-      held_after = g.W.Sink.held c.flush-in-Err.new.sink;
-      writes_before = g.W.Sink.faults c.args.sink.now;
-      writes_after = g.W.Sink.faults c.flush-in-Err.new.sink;
-    } in
-    rw exit.1 (fault-failed _ _ _ seen _ _ _ _ _ _ kept next (rose-after _ _ _ later c.in_err-flush-in-Err.ensures.cause.failed) c.in_err-flush-in-Err.ensures.err)
+    let around = seen g.R.Source.left g.R.Source.ended g.R.Source.faults g.W.Sink.held g.W.Sink.faults
+    c.args.source.now c.next.new.source c.args.sink.now c.flush-in-Err.new.sink in
+    rw exit.1 (fault-failed _ _ _ around _ _ _ _ _ _ kept next (rose-after _ _ _ later c.in_err-flush-in-Err.ensures.cause.failed) c.in_err-flush-in-Err.ensures.err)
 
 pub returns-in-Err : goal.returns-in-Err
 returns-in-Err g c =
