@@ -4,6 +4,7 @@ use Rattle.std.specs.Prelude.{slice_index, find, unwrap_or, position, option_map
 use Rattle.std.specs.Int.{from_le_bytes, to_le_bytes, w64}
 use Rattle.std.proofs.lemmas.Nat.{le_bytes_8, from_le_bytes-to_le_bytes_8}
 use Rattle.std.proofs.lemmas.Bool.{cases_Bool}
+use Rattle.bit_lists.specs.Places.{for_each}
 use Rattle.mac_columns.specs.declared.column.Column.{Column}
 use Rattle.mac_columns.specs.declared.column.Column.TheVariants.{Start, Data, End, Idle, Error}
 use Rattle.block66.specs.declared.Block.{Block}
@@ -118,6 +119,7 @@ end-octets : (n : ℕ) (octets : List ℕ) → length octets ≡ 7 → AreOctets
 end-octets n octets seven are = (omega (arith, length-take n octets), take-octets n octets are)
 
 candidates-octets : (octets : List ℕ) → AreEight octets → Each HasOctets (candidates octets)
+unfolding for_each
 candidates-octets [] are = absurd (omega (arith, are.0))
 candidates-octets (a ∷ rest) are =
     let seven : length rest ≡ 7 = omega (arith, are.0) in
@@ -126,6 +128,7 @@ candidates-octets (a ∷ rest) are =
     (are, ((seven, small), (tt, (tt, (end 0, (end 1, (end 2, (end 3, (end 4, (end 5, (end 6, (end 7, tt))))))))))))
 
 end-in : (octets : List ℕ) → length octets ≤ 7 → In (End octets) (candidates (payload_octets (End octets)))
+unfolding for_each
 end-in [] h = inr (inr (inr (inr (inl refl))))
 end-in (a ∷ []) h = inr (inr (inr (inr (inr (inl refl)))))
 end-in (a ∷ b ∷ []) h = inr (inr (inr (inr (inr (inr (inl refl))))))
