@@ -1,3 +1,4 @@
+pub mod Headers
 pub mod Told
 pub mod Pieces
 pub mod Decoding

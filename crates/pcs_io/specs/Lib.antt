@@ -1,4 +1,5 @@
 pub mod Faults
+pub mod Headers
 pub mod Octets
 pub mod Memory
 pub mod Buffering
