@@ -38,7 +38,7 @@ eight a b c d e f g h sa sb sc sd se sf sg sh =
     let b1 = one-more b (c ∷ d ∷ e ∷ f ∷ g ∷ h ∷ []) sb c1 in
     (refl, one-more a (b ∷ c ∷ d ∷ e ∷ f ∷ g ∷ h ∷ []) sa b1)
 
-end-types : AreOctets end_types
+pub end-types : AreOctets end_types
 end-types =
     (eight 0x87 0x99 0xaa 0xb4 0xcc 0xd2 0xe1 0xff (lit< tt) (lit< tt) (lit< tt) (lit< tt) (lit< tt) (lit< tt) (lit< tt) (lit< tt)).1
 

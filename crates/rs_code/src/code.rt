@@ -1,4 +1,4 @@
-ghost use Rattle.std.specs.Prelude.{◌≡◌, ℕ, ◌<◌, ◌++◌, slice_index_or};
+ghost use Rattle.std.specs.Prelude.{◌≡◌, ℕ, ◌<◌, ◌++◌, length, slice_index_or};
 ghost use Rattle.gf1024.specs.Symbol.{gf, zero_symbol, alpha};
 ghost use Rattle.field_base.specs.Field.{power};
 ghost use Rattle.field_base.specs.Poly.{value};
@@ -11,7 +11,8 @@ use gf1024::Gf;
 
 /// Writes the parity of the one codeword with this message, whatever was in `parity`.
 pub fn encode(message: &[Gf; 514], parity: &mut [Gf; 30])
-    ensures { parity.new ++ message.now ≡ coded message.now }
+    ensures coded { parity.new ++ message.now ≡ coded message.now }
+    ensures size { length parity.new ≡ 30 }
 {
     for j in 0..30usize {
         parity[j] = Gf::low(0);

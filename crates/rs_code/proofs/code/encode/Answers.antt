@@ -30,8 +30,8 @@ loop-i-preserved c = (
       c.add-feedback.ensures c.loop-i.invariant.1),
 )
 
-pub returns : goal.returns
-returns c =
+pub returns-clause-coded : goal.returns-clause-coded
+returns-clause-coded c =
     let register = c.loop-i.parity in
     let message = c.args.message.now in
     let all : 514 - c.loop-i.i ≡ 0 = omega arith in
