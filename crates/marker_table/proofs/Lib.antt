@@ -1,0 +1,4 @@
+pub mod BitsOnly
+pub mod Pad
+pub mod Tables
+mod Rows
