@@ -51,12 +51,6 @@ last_taken words bit old new five e =
       get_or-set_same words 4 bit 0 low,
     ) (sym (append_assoc (all_bits 64 (take 4 words)) (bits 1 bit) new))
 
--- a wide put behind others
-pub one_wide : (wides : List (List ℕ)) (i : ℕ) (wide old new : List ℕ) → i < length wides → wide ≡ get_or wides i wide
-    → old ≡ flat (take i wides) → new ≡ old ++ wide → new ≡ flat (take (i + 1) wides)
-one_wide wides i wide old new low is before put =
-    put ∙ ap (λ t. t ++ wide) before ∙ ap (λ t. flat (take i wides) ++ t) is ∙ sym (flat_more wides i wide low)
-
 -- a wide taken off the front
 pub wide_taken : (wides : List (List ℕ)) (i : ℕ) (wide old new : List ℕ) → i < length wides → old ≡ wide ++ new
     → flat (take i wides) ++ old ≡ flat (take (i + 1) (set wides i wide)) ++ new

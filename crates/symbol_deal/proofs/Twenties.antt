@@ -15,7 +15,7 @@ use Rattle.bit_lists.proofs.Lists.{flat_map-range-same}
 use Rattle.bit_lists.proofs.ByPlaces.{by_places, length-for_each, at-for_each}
 use Rattle.gf1024.specs.Symbol.{Symbol, symbol, zero_symbol}
 use Rattle.gf1024.proofs.Views.{symbol_of_value}
-use Rattle.symbol_deal.specs.Messages.{message_a, message_b, message_bits}
+use Rattle.symbol_deal.specs.Messages.{message_a, message_b, twenty_bits, message_bits}
 use Rattle.symbol_deal.proofs.FromEnd.{from_end, at-from_end}
 
 -- ---- twenty bits of many
@@ -90,19 +90,22 @@ at-message_b ns i count low =
 abbrev pub twenty : List Symbol → List Symbol → ℕ → ℕ
 twenty a b i = (get_or b (513 - i) zero_symbol).value * 1024 + (get_or a (513 - i) zero_symbol).value
 
-bits_of_twenty : (a b : List Symbol) (i : ℕ)
-    → bits 20 (twenty a b i) ≡ bits 10 (get_or a (513 - i) zero_symbol).value ++ bits 10 (get_or b (513 - i) zero_symbol).value
-bits_of_twenty a b i =
-    bits_cat 10 10 (get_or a (513 - i) zero_symbol).value (get_or b (513 - i) zero_symbol).value (get_or a (513 - i) zero_symbol).small
-
 pub twenty-lt : (a b : List Symbol) (i : ℕ) → twenty a b i < 2 ^ 20
 twenty-lt a b i = omega (arith, (get_or a (513 - i) zero_symbol).small, (get_or b (513 - i) zero_symbol).small)
 
+bits_of_twenty : (a b : List Symbol) (i : ℕ) → bits 20 (twenty a b i) ≡ twenty_bits a b i
+bits_of_twenty a b i =
+    bits_cat 10 10 (get_or a (513 - i) zero_symbol).value (get_or b (513 - i) zero_symbol).value (get_or a (513 - i) zero_symbol).small
+
+pub first_twenties : (a b : List Symbol) (n : ℕ) → all_bits 20 (for_each n (twenty a b)) ≡ joined n (twenty_bits a b)
+unfolding all_bits for_each joined
+first_twenties a b n =
+    flat_map-map (bits 20) (twenty a b) (range_with_len 0 n)
+    ∙ flat_map-range-same (λ i. bits 20 (twenty a b i)) (twenty_bits a b) 0 n (λ i at low. bits_of_twenty a b i)
+
 pub all_twenties : (a b : List Symbol) → all_bits 20 (for_each 514 (twenty a b)) ≡ message_bits a b
-unfolding message_bits all_bits for_each joined
-all_twenties a b =
-    flat_map-map (bits 20) (twenty a b) (range_with_len 0 514)
-    ∙ flat_map-range-same (λ i. bits 20 (twenty a b i)) _ 0 514 (λ i at low. bits_of_twenty a b i)
+unfolding message_bits
+all_twenties a b = first_twenties a b 514
 
 -- numbers that are those of two messages
 pub twenties_of : (ns : List ℕ) (a b : List Symbol) → length ns ≡ 514 → ((i : ℕ) → i < 514 → get_or ns i 0 ≡ twenty a b i)

@@ -3,6 +3,8 @@
 #![tactic(auto)]
 
 pub mod laws;
+mod bits_dealt;
+mod bits_left;
 mod messages;
 mod rows;
 

@@ -8,38 +8,27 @@ use Rattle.symbol_deal.proofs.Shapes.{length-message_bits}
 use Rattle.symbol_deal.proofs.Taking.{wide_taken, all_taken, wides_back}
 use Rattle.symbol_deal.proofs.messages.from_messages.Goals as goal
 
-pub invariant_of-left : goal.invariant_of-left
-invariant_of-left c = record {
-  size = search rules;
-  within = omega arith;
-  few = omega (arith, ap length c.new.ensures);
-  fits = c.twenties.ensures.fits;
-}
-
 pub loop-i-init : goal.loop-i-init
-loop-i-init c =
-    let whole : c.new.result ++ all_bits 20 c.twenties.result ≡ message_bits c.args.a.now c.args.b.now =
-    rw c.new.ensures (c.twenties.ensures.bits) in
-    record {
-      count = refl;
-      bits = rw flat-nil whole;
-      size = omega (arith, ap length whole, length-message_bits c.args.a.now c.args.b.now);
-      each = λ n low. absurd (omega arith);
-    }
+loop-i-init c = record {
+  count = refl;
+  bits = rw flat-nil (c.new-left.ensures);
+  size = omega (arith, ap length c.new-left.ensures, length-message_bits c.args.a.now c.args.b.now);
+  each = λ n low. absurd (omega arith);
+}
 
 pub loop-i-preserved : goal.loop-i-preserved
 loop-i-preserved c =
     let here = c.loop-i in
-    let wide = c.wide.result in
+    let wide = c.take_wide.result in
     let low : here.i < length here.wides = omega (arith, here.invariant.count) in
     record {
       count = length-set here.wides here.i wide ∙ here.invariant.count;
-      bits = sym (wide_taken here.wides here.i wide here.left c.wide.new.self low c.wide.ensures.front) ∙ here.invariant.bits;
-      size = omega (arith, here.invariant.size, c.wide.ensures.size);
+      bits = sym (wide_taken here.wides here.i wide here.left c.take_wide.new.self low c.take_wide.ensures.front) ∙ here.invariant.bits;
+      size = omega (arith, here.invariant.size, c.take_wide.ensures.size);
       each = below_more _ _
         (λ n h. let other : n ≢ here.i = omega arith in
           ap length (get_or-set_other here.wides here.i n wide [] other) ∙ here.invariant.each n h)
-        (ap length (get_or-set_same here.wides here.i wide [] low) ∙ c.wide.ensures.length);
+        (ap length (get_or-set_same here.wides here.i wide [] low) ∙ c.take_wide.ensures.length);
     }
 
 pub returns-clause-bits : goal.returns-clause-bits

@@ -1,6 +1,6 @@
 use Rattle.std.proofs.Common.{◌≡◌, ◌≤◌, ◌<◌, ◌^◌, ◌+◌, ◌-◌, ℕ, length, get_or}
 use Rattle.symbol_deal.specs.Left.{bits_left}
-use Rattle.symbol_deal.proofs.messages.BitsLeft.pop.Given as goal
+use Rattle.symbol_deal.proofs.bits_left.BitsLeft.pop.Given as goal
 
 abbrev pub invariant-loop-self : goal.invariant-loop-self
 invariant-loop-self l = record {

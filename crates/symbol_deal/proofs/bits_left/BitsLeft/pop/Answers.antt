@@ -1,7 +1,7 @@
 use Rattle.std.proofs.Common.{◌≡◌, ◌<◌, ◌∙◌, ap, length, arith}
 use Rattle.symbol_deal.specs.Left.{bits_left}
 use Rattle.symbol_deal.proofs.Taking.{more_there, one_more}
-use Rattle.symbol_deal.proofs.messages.BitsLeft.pop.Goals as goal
+use Rattle.symbol_deal.proofs.bits_left.BitsLeft.pop.Goals as goal
 
 pub bounds-self-inside-self-inside : goal.bounds-self-inside-self-inside
 bounds-self-inside-self-inside c =
