@@ -1,5 +1,5 @@
 -- Bits dealt to two messages.
-use Rattle.std.proofs.Common.{◌≡◌, ◌≢◌, ℕ, ◌+◌, ◌-◌, ◌*◌, ◌/◌, ◌%◌, ◌^◌, ◌<◌, ◌≤◌, List, [], ◌∷◌, ◌++◌, length, get_or, take, set, sym, ◌∙◌, ap, ap₂}
+use Rattle.std.proofs.Common.{◌≡◌, ◌≢◌, ℕ, ◌+◌, ◌-◌, ◌*◌, ◌/◌, ◌%◌, ◌<◌, ◌≤◌, List, [], ◌∷◌, ◌++◌, length, get_or, take, set, sym, ◌∙◌, ap, ap₂}
 use Rattle.std.proofs.Common.{arith, append-nil, length-append, get_or-set_same, get_or-set_other}
 use Rattle.std.proofs.lemmas.List.{append_assoc}
 use Rattle.bit_lists.specs.Bits.{bits}
@@ -16,7 +16,7 @@ pub length-dealt : (a b : List Symbol) (count : ℕ) (rest : List ℕ) → lengt
 length-dealt a b count rest =
     length-append (joined count (twenty_bits a b)) rest
     ∙ ap (λ n. n + length rest) (ap length (sym (first_twenties a b count)) ∙ length-all_bits 20 (for_each count (twenty a b))
-      ∙ ap (λ n. n * 20) (length-for_each count (twenty a b)))
+    ∙ ap (λ n. n * 20) (length-for_each count (twenty a b)))
 
 joined-suc : (f : ℕ → List ℕ) (n : ℕ) → joined (n + 1) f ≡ joined n f ++ f n
 joined-suc f n = joined-more f n 1 ∙ ap (λ t. joined n f ++ t) (append-nil (f n))
@@ -40,12 +40,16 @@ two_dealt a b count t rest left a_size b_size low e =
     let place = 513 - count in
     let more = twenty_bits (set a place (symbol (t % 1024))) (set b place (symbol (t / 1024))) in
     let before : joined count more ≡ joined count (twenty_bits a b) = same_before more (twenty_bits a b) count (λ i small.
-      let other : 513 - i ≢ place = omega arith in
-      rw (get_or-set_other a place (513 - i) (symbol (t % 1024)) zero_symbol other,
-        get_or-set_other b place (513 - i) (symbol (t / 1024)) zero_symbol other)) in
+    let other : 513 - i ≢ place = omega arith in
+    rw (
+      get_or-set_other a place (513 - i) (symbol (t % 1024)) zero_symbol other,
+      get_or-set_other b place (513 - i) (symbol (t / 1024)) zero_symbol other,
+    )) in
     let here : more count ≡ bits 20 t =
-    rw (get_or-set_same a place (symbol (t % 1024)) zero_symbol (omega arith),
-      get_or-set_same b place (symbol (t / 1024)) zero_symbol (omega arith)) (two_symbols t) in
+    rw (
+      get_or-set_same a place (symbol (t % 1024)) zero_symbol (omega arith),
+      get_or-set_same b place (symbol (t / 1024)) zero_symbol (omega arith),
+    ) (two_symbols t) in
     rw (joined-suc more count, before, here, e) (append_assoc (joined count (twenty_bits a b)) (bits 20 t) left)
 
 -- bits put behind the rest

@@ -5,7 +5,7 @@ use Rattle.std.proofs.lemmas.List.{drop_more, append_assoc, take_more_set, take-
 use Rattle.bit_lists.specs.Bits.{bits, all_bits}
 use Rattle.bit_lists.specs.Places.{flat, pieces}
 use Rattle.bit_lists.proofs.Facts.{all_bits-cons, all_bits-push, length-all_bits}
-use Rattle.bit_lists.proofs.ByPlaces.{flat_more, flat-push, pieces-flat}
+use Rattle.bit_lists.proofs.ByPlaces.{flat-push, pieces-flat}
 use Rattle.pcs_bits.specs.Wides.{wide_bits}
 use Rattle.pcs_bits.specs.WideWords.{wide_bits_split}
 use Rattle.symbol_deal.specs.Left.{bits_left}

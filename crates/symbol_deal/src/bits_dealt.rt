@@ -29,6 +29,7 @@ impl Model for BitsDealt {
 }
 
 impl BitsDealt {
+    /// No bits yet.
     pub fn new() -> Self
         ensures { result ≡ [] }
     {
