@@ -1,5 +1,5 @@
 -- Bits dealt to two messages.
-use Rattle.std.proofs.Common.{◌≡◌, ◌≢◌, ℕ, ◌+◌, ◌-◌, ◌*◌, ◌/◌, ◌%◌, ◌<◌, ◌≤◌, List, [], ◌∷◌, ◌++◌, length, get_or, take, set, sym, ◌∙◌, ap, ap₂}
+use Rattle.std.proofs.Common.{◌≡◌, ◌≢◌, ℕ, ◌+◌, ◌-◌, ◌*◌, ◌/◌, ◌%◌, ◌<◌, List, [], ◌∷◌, ◌++◌, length, get_or, take, set, sym, ◌∙◌, ap, ap₂}
 use Rattle.std.proofs.Common.{arith, append-nil, length-append, get_or-set_same, get_or-set_other}
 use Rattle.std.proofs.lemmas.List.{append_assoc}
 use Rattle.bit_lists.specs.Bits.{bits}
@@ -9,7 +9,7 @@ use Rattle.bit_lists.proofs.Lists.{joined-more, flat_map-range-same}
 use Rattle.bit_lists.proofs.ByPlaces.{length-for_each, flat_more}
 use Rattle.gf1024.specs.Symbol.{Symbol, symbol, zero_symbol}
 use Rattle.symbol_deal.specs.Messages.{twenty_bits, message_bits}
-use Rattle.symbol_deal.specs.Dealt.{bits_dealt}
+use Rattle.symbol_deal.specs.Dealt.{bits_dealt, AreDealt}
 use Rattle.symbol_deal.proofs.Twenties.{twenty, first_twenties}
 
 pub length-dealt : (a b : List Symbol) (count : ℕ) (rest : List ℕ) → length (bits_dealt a b count rest) ≡ count * 20 + length rest
@@ -32,11 +32,11 @@ two_symbols t =
     ap₂ (λ x y. x ++ y) (bits-mod 10 10 (t % 1024) (omega arith) ∙ bits-mod 10 10 t (omega arith)) (bits-mod 10 10 (t / 1024) (omega arith))
     ∙ bits-append 10 10 t
 
--- twenty bits of the rest become a symbol of each message
-pub two_dealt : (a b : List Symbol) (count t : ℕ) (rest left : List ℕ) → length a ≡ 514 → length b ≡ 514 → count < 514
-    → rest ≡ bits 20 t ++ left
-    → bits_dealt (set a (513 - count) (symbol (t % 1024))) (set b (513 - count) (symbol (t / 1024))) (count + 1) left ≡ bits_dealt a b count rest
-two_dealt a b count t rest left a_size b_size low e =
+-- a symbol of each message put behind the others
+pub two_dealt : (a b : List Symbol) (count t : ℕ) → length a ≡ 514 → length b ≡ 514 → count < 514
+    → joined (count + 1) (twenty_bits (set a (513 - count) (symbol (t % 1024))) (set b (513 - count) (symbol (t / 1024))))
+    ≡ joined count (twenty_bits a b) ++ bits 20 t
+two_dealt a b count t a_size b_size low =
     let place = 513 - count in
     let more = twenty_bits (set a place (symbol (t % 1024))) (set b place (symbol (t / 1024))) in
     let before : joined count more ≡ joined count (twenty_bits a b) = same_before more (twenty_bits a b) count (λ i small.
@@ -50,7 +50,20 @@ two_dealt a b count t rest left a_size b_size low e =
       get_or-set_same a place (symbol (t % 1024)) zero_symbol (omega arith),
       get_or-set_same b place (symbol (t / 1024)) zero_symbol (omega arith),
     ) (two_symbols t) in
-    rw (joined-suc more count, before, here, e) (append_assoc (joined count (twenty_bits a b)) (bits 20 t) left)
+    rw (joined-suc more count, before, here)
+
+-- forty bits of the rest become two symbols of each message
+pub four_dealt : (f g h : ℕ → List ℕ) (count t : ℕ) (rest left : List ℕ)
+    → joined (count + 1) g ≡ joined count f ++ bits 20 (t % 1048576) → joined (count + 1 + 1) h ≡ joined (count + 1) g ++ bits 20 (t / 1048576)
+    → rest ≡ bits 40 t ++ left → joined (count + 2) h ++ left ≡ joined count f ++ rest
+four_dealt f g h count t rest left one two e =
+    let first = bits 20 (t % 1048576) in
+    let second = bits 20 (t / 1048576) in
+    let forty : first ++ second ≡ bits 40 t = rw (bits-mod 20 20 t (omega arith)) (bits-append 20 20 t) in
+    let all : joined (count + 2) h ≡ joined count f ++ bits 40 t =
+    ap (λ n. joined n h) (omega arith) ∙ two ∙ ap (λ x. x ++ second) one ∙ append_assoc (joined count f) first second
+    ∙ ap (λ x. joined count f ++ x) forty in
+    rw (all, e) (append_assoc (joined count f) (bits 40 t) left)
 
 -- bits put behind the rest
 pub put_behind : (a b : List Symbol) (count : ℕ) (rest more longer : List ℕ) → longer ≡ rest ++ more
@@ -69,11 +82,11 @@ unfolding joined
 nothing_dealt a b rest none = none
 
 -- once all bits are there, they are those of the messages
-pub all_dealt : (a b : List Symbol) (count : ℕ) (rest pair : List ℕ) → bits_dealt a b count rest ≡ pair → length pair ≡ 10280
-    → count ≤ 514 → length rest < 20 → message_bits a b ≡ pair
+pub all_dealt : (a b : List Symbol) (count : ℕ) (rest pair : List ℕ) → AreDealt a b count rest → bits_dealt a b count rest ≡ pair
+    → length pair ≡ 10280 → message_bits a b ≡ pair
 unfolding message_bits
-all_dealt a b count [] pair same size within few =
+all_dealt a b count [] pair are same size =
     let end : 514 ≡ count = omega (arith, length-dealt a b count [], ap length same, size) in
     ap (λ n. joined n (twenty_bits a b)) end ∙ sym (append-nil (joined count (twenty_bits a b))) ∙ same
-all_dealt a b count (x ∷ rest) pair same size within few =
-    absurd (omega (arith, length-dealt a b count (x ∷ rest), ap length same, size))
+all_dealt a b count (x ∷ rest) pair are same size =
+    absurd (omega (arith, length-dealt a b count (x ∷ rest), ap length same, size, are.within, are.even, are.few))
