@@ -1,0 +1,11 @@
+pub mod Payload
+pub mod Pairs
+pub mod BeatFacts
+pub mod LaneFacts
+pub mod HoldFacts
+pub mod StepFacts
+pub mod Known
+pub mod SenderFacts
+pub mod Carrying
+pub mod CarriedBeats
+pub mod Filling
