@@ -1,5 +1,5 @@
 // The reader of frame lines.
-ghost use Rattle.std.specs.Prelude.{◌≡◌, ◌≤◌, ◌⊎◌, IfOk, IsErrOf, IsTrue, Contains, ◌↔◌};
+ghost use Rattle.std.specs.Prelude.{◌≡◌, ◌≤◌, ◌⊎◌, IfOk, IsErrOf, IsTrue, Contains, ◌↔◌, length};
 ghost use Rattle.pcs_io.specs.Faults.{Rose};
 
 use crate::frame_parser::FrameParser;
@@ -35,8 +35,8 @@ impl Lines {
     ghost use Rattle.std.specs.Borrow.{sem};
     ghost use Rattle.std.specs.Io.BufRead.{Rests};
     ghost use Rattle.pcs_io.specs.contracts.lines.Lines.{the_row};
-    ghost use Rattle.pcs_io.specs.FrameLines.{frame_line_at};
-    ghost use Rattle.pcs_io.specs.Histories.{Nexts, Stands, opened};
+    ghost use Rattle.pcs_io.specs.FrameLines.{FrameLine, frame_line_at};
+    ghost use Rattle.pcs_io.specs.Histories.{History, Nexts, Stands, opened};
     ghost use Rattle.pcs_io.specs.FrameAnswers.{content, FitsFrame};
 
     /// A reader that takes at most `limit` octets.
@@ -65,6 +65,13 @@ impl Lines {
             gap: parser.gap(),
             frame: parser.frame(),
         }))
+    }
+
+    /// How many lines were answered.
+    pub fn answered(&self) -> u64
+        ensures { (h : History FrameLine) → Stands frame_line_at self.now h → result ≡ length h.lines }
+    {
+        self.reader.answered()
     }
 
     /// Whether a newline stands among the octets that were taken and are not answered, so that

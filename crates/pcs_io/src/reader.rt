@@ -69,6 +69,13 @@ impl<P: Parser + Drop> Reader<P> {
         memchr(b'\n', self.input.unused()).is_some()
     }
 
+    /// How many lines were answered.
+    pub fn answered(&self) -> u64
+        ensures { result ≡ self.now.lines }
+    {
+        self.lines
+    }
+
     /// Reads the next line, and answers whether there is one.
     pub fn next<S: Source>(&mut self, source: &mut S) -> Result<bool, InFault>
         ensures nexts { Nexts P.line_at self.old self.new (S.left source.old) (S.left source.new) (S.ended source.new) (answer_of result (P.line self.new.parser)) }
