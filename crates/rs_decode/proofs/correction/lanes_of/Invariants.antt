@@ -1,0 +1,9 @@
+use Rattle.std.proofs.Common.{◌≡◌, ℕ, ◌<◌, get_or, length}
+use Rattle.gf1024.specs.Symbol.{zero_symbol}
+use Rattle.rs_decode.proofs.correction.lanes_of.Given as goal
+
+abbrev pub invariant-loop-k : goal.invariant-loop-k
+invariant-loop-k l = record {
+  long : length l.list ≡ 32;
+  each : (k : ℕ) → k < l.k → get_or l.list k zero_symbol ≡ get_or l.poly k zero_symbol;
+}
