@@ -14,7 +14,7 @@ use Rattle.gf1024.proofs.FieldLaws.{laws}
 use Rattle.field_base.specs.Poly.{along, delayed, plus, scaled}
 use Rattle.field_base.proofs.Ring.{zero_add, zero_mul, mul_zero}
 use Rattle.field_base.proofs.Along.{delayed_zero, length_scaled}
-use Rattle.rs_decode.specs.Recurrence.{sequence, sum_along, mended, multiple}
+use Rattle.rs_decode.specs.Recurrence.{sequence, sum_along}
 
 -- ---- along
 -- what is left of the sum from coefficient i on
@@ -73,34 +73,6 @@ plus_at [] d i = sym (zero_add gf laws (get_or d i zero_symbol))
 plus_at (c ∷ cs) [] i = sym (laws.add_zero (get_or (c ∷ cs) i zero_symbol))
 plus_at (c ∷ cs) (d ∷ ds) zero = refl
 plus_at (c ∷ cs) (d ∷ ds) (suc i) = plus_at cs ds i
-
-scaled_at : (k : Symbol) (c : List Symbol) (i : ℕ) → get_or (scaled gf k c) i zero_symbol ≡ product_of k (get_or c i zero_symbol)
-scaled_at k [] i = sym (mul_zero gf laws k)
-scaled_at k (c ∷ cs) zero = refl
-scaled_at k (c ∷ cs) (suc i) = scaled_at k cs i
-
-pub mended_at : (c b : List Symbol) (d : Symbol) (i : ℕ)
-    → get_or (mended c d b) i zero_symbol ≡ sum_of (get_or c i zero_symbol) (product_of d (get_or b i zero_symbol))
-unfolding mended
-mended_at c b d i = plus_at c (scaled gf d b) i ∙ ap (sum_of (get_or c i zero_symbol)) (scaled_at d b i)
-
-pub multiple_at : (d : Symbol) (b : List Symbol) (i : ℕ)
-    → get_or (multiple d b) i zero_symbol ≡ product_of d (get_or b i zero_symbol)
-unfolding multiple
-multiple_at d b i = scaled_at d b i
-
-length_plus_max : (c d : List Symbol) → length (plus gf c d) ≡ max (length c) (length d)
-length_plus_max [] d = omega arith
-length_plus_max (c ∷ cs) [] = omega arith
-length_plus_max (c ∷ cs) (d ∷ ds) = omega (arith, length_plus_max cs ds)
-
-pub length_mended : (c b : List Symbol) (d : Symbol) → length (mended c d b) ≡ max (length c) (length b)
-unfolding mended
-length_mended c b d = omega (arith, length_plus_max c (scaled gf d b), length_scaled gf laws d b)
-
-pub length_multiple : (d : Symbol) (b : List Symbol) → length (multiple d b) ≡ length b
-unfolding multiple
-length_multiple d b = length_scaled gf laws d b
 
 -- a list made one by one
 pub made_next : (T xs : List Symbol) (i : ℕ) (v : Symbol) → i < length T → xs ≡ take i T → v ≡ get_or T i zero_symbol

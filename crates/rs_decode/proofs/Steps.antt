@@ -1,19 +1,43 @@
 -- One symbol more in the search for a shortest recurrence.
-use Rattle.std.proofs.Common.{◌≡◌, ℕ, suc, ◌+◌, ◌-◌, ◌*◌, ◌<◌, ◌≤◌, List, ◌∷◌, sym, ap, ◌∙◌}
+use Rattle.std.proofs.Common.{◌≡◌, ℕ, suc, ◌+◌, ◌-◌, ◌*◌, ◌<◌, ◌≤◌, List, [], ◌∷◌, get_or, refl, sym, ap, ◌∙◌}
 use Rattle.std.proofs.Common.{subst, arith}
 use Rattle.gf1024.specs.Symbol.{Symbol, gf, zero_symbol, one_symbol, sum_of, product_of, product_of_squares}
 use Rattle.gf1024.proofs.FieldLaws.{laws}
 use Rattle.field_base.specs.Poly.{along, plus, scaled, rest}
 use Rattle.field_base.proofs.Ring.{one_mul, mul_zero, mul_left}
-use Rattle.field_base.proofs.Massey.{State, keeps, adjusts, lengthens}
-use Rattle.rs_decode.specs.Recurrence.{sequence, sum_along, mended, multiple}
+use Rattle.field_base.proofs.Coefficients.{plus_at, scaled_at}
+use Rattle.field_base.proofs.Massey.{State, start, keeps, adjusts, lengthens}
+use Rattle.rs_decode.specs.Recurrence.{sequence, sum_along}
 
+-- c + d b
+unfoldable pub mended : List Symbol → Symbol → List Symbol → List Symbol
+mended c d b = plus gf c (scaled gf d b)
+
+-- d b
+unfoldable pub multiple : Symbol → List Symbol → List Symbol
+multiple d b = scaled gf d b
+
+pub mended_at : (c b : List Symbol) (d : Symbol) (i : ℕ)
+    → get_or (mended c d b) i zero_symbol ≡ sum_of (get_or c i zero_symbol) (product_of d (get_or b i zero_symbol))
+unfolding mended
+mended_at c b d i = plus_at gf laws c (scaled gf d b) i ∙ ap (sum_of (get_or c i zero_symbol)) (scaled_at gf laws d b i)
+
+pub multiple_at : (d : Symbol) (b : List Symbol) (i : ℕ)
+    → get_or (multiple d b) i zero_symbol ≡ product_of d (get_or b i zero_symbol)
+unfolding multiple
+multiple_at d b i = scaled_at gf laws d b i
+
+-- after n symbols: a shortest list behind 1, and the other one behind 0
 pub record Holds (symbols : List Symbol) (n : ℕ) (here other : List Symbol) (k : ℕ) : Type 0 where
   pub state : State gf laws (sequence symbols) n (rest gf here) (rest gf other) k
   pub begins : here ≡ one_symbol ∷ rest gf here
   pub other_begins : other ≡ zero_symbol ∷ rest gf other
 
-one_more : (n : ℕ) → n + 1 ≡ suc n
+-- before the first symbol
+pub holds_first : (s : List Symbol) → Holds s 0 (one_symbol ∷ []) (zero_symbol ∷ zero_symbol ∷ []) 0
+holds_first s = record { state = start gf laws (sequence s); begins = refl; other_begins = refl }
+
+pub one_more : (n : ℕ) → n + 1 ≡ suc n
 one_more n = omega arith
 
 at_head : (s here : List Symbol) (n : ℕ) → here ≡ one_symbol ∷ rest gf here
