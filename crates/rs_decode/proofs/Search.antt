@@ -1,18 +1,23 @@
 -- The locator's values from place to place, as sums of terms in lanes.
-use Rattle.std.proofs.Common.{◌≡◌, ◌≢◌, ℕ, zero, suc, ◌+◌, ◌<◌, ◌≤◌, List, [], ◌∷◌, length, get_or, sym, ap}
-use Rattle.std.proofs.Common.{◌∙◌, subst, arith, ◌⊎◌, inl, inr}
-use Rattle.std.proofs.lemmas.List.{get_or-set_same, get_or-set_other}
-use Rattle.std.proofs.lemmas.Bool.{cases_lt}
-use Rattle.std.proofs.Math.ListN.{set}
-use Rattle.gf1024.specs.Symbol.{Symbol, gf, zero_symbol, one_symbol, product_of, alpha, product_of_squares}
-use Rattle.gf1024.proofs.FieldLaws.{laws}
+use Rattle.std.proofs.Common.{◌≡◌, ℕ, zero, suc, ◌+◌, ◌-◌, ◌%◌, ◌<◌, ◌≤◌, Bool, true, false, List, [], ◌∷◌, ◌++◌, length, get_or}
+use Rattle.std.proofs.Common.{take, cond, ◌==◌, refl, sym, ap, ap₂, ◌∙◌, append_assoc, arith}
+use Rattle.std.specs.List.{filter, range_with_len}
+use Rattle.std.proofs.lemmas.Bool.{eqb-true}
+use Rattle.std.proofs.lemmas.List.{take_all, append-nil}
+use Rattle.gf1024.specs.Symbol.{Symbol, gf, zero_symbol, one_symbol, symbol, product_of, alpha, product_of_squares}
+use Rattle.gf1024.specs.Word.{product, reduced, times_low}
+use Rattle.gf1024.proofs.FieldLaws.{laws, symbol_path, value_product}
+use Rattle.gf1024.proofs.Linear.{all_below, all_below_at}
 use Rattle.gf1024.proofs.Powers.{alpha_nonzero}
 use Rattle.field_base.specs.Field.{Field, Laws, power, total}
 use Rattle.field_base.specs.Poly.{value}
-use Rattle.field_base.proofs.Ring.{zero_mul, mul_zero, zero_add, one_mul}
+use Rattle.field_base.proofs.Ring.{zero_mul, mul_zero, zero_add, one_mul, mul_left}
 use Rattle.field_base.proofs.Shorter.{power_apart}
 use Rattle.field_base.proofs.Words.{power_of_product, power_of_one}
 use Rattle.gf_lanes.specs.Lanes.{EachLane}
+use Rattle.rs_decode.specs.Recurrence.{StartsAs}
+use Rattle.rs_decode.specs.Repair.{place, back_power, is_root, roots_below}
+use Rattle.rs_decode.specs.declared.roots.TheConstants.{INVERSE_POWERS}
 use Rattle.rs_decode.proofs.Steps.{only_inverse}
 
 module _ (F : Field) (L : Laws F) where
@@ -42,10 +47,6 @@ module _ (F : Field) (L : Laws F) where
   power_swap b zero i = power_of_one F L i
   power_swap b (suc k) i = power_of_product F L b (power F b k) i ∙ ap (mul (power F b i)) (power_swap b k i)
 
-  -- a factor on the other side
-  pub one_step : (c p q : carrier) → mul (mul c p) q ≡ mul c (mul q p)
-  one_step c p q = L.mul_assoc c p q ∙ ap (mul c) (L.mul_comm p q)
-
 abbrev pub back : Symbol
 back = product_of_squares 9 alpha
 
@@ -61,28 +62,26 @@ pub record IsTerms (c : List Symbol) (i : ℕ) (T : List Symbol) : Type 0 where
   pub long : length T ≡ 32
   pub each : (k : ℕ) → k < 32 → get_or T k zero_symbol ≡ product_of (get_or c k zero_symbol) (power gf (power gf back k) i)
 
-pub terms_first : (c T : List Symbol) → length T ≡ 32 → ((k : ℕ) → k < 32 → get_or T k zero_symbol ≡ get_or c k zero_symbol)
-    → IsTerms c 0 T
-terms_first c T long h = record {
-  long = long;
-  each = λ k less. h k less ∙ sym (laws.mul_one (get_or c k zero_symbol));
+pub terms_first : (c T : List Symbol) → StartsAs 32 c T → IsTerms c 0 T
+terms_first c T h = record {
+  long = h.long;
+  each = λ k less. h.each k less ∙ sym (laws.mul_one (get_or c k zero_symbol));
 }
 
 pub terms_next : (c T steps new : List Symbol) (i : ℕ) → IsTerms c i T
-    → ((k : ℕ) → k < 32 → get_or steps k zero_symbol ≡ power gf back k) → EachLane product_of T steps new
+    → ((k : ℕ) → k < 32 → get_or steps k zero_symbol ≡ back_power k) → EachLane product_of steps T new
     → IsTerms c (i + 1) new
 terms_next c T steps new i h hs lanes = record {
   long = lanes.long;
   each = λ k less.
       let q = power gf back k in
       let one : suc i ≡ i + 1 = omega arith in
-      lanes.each k less ∙ ap (product_of (get_or T k zero_symbol)) (hs k less)
-      ∙ ap (λ z. product_of z q) (h.each k less) ∙ one_step gf laws (get_or c k zero_symbol) (power gf q i) q
+      lanes.each k less ∙ ap₂ product_of (hs k less ∙ inverse_of_power k) (h.each k less)
+      ∙ mul_left gf laws q (get_or c k zero_symbol) (power gf q i)
       ∙ ap (λ z. product_of (get_or c k zero_symbol) (power gf q z)) one;
 }
 
-pub terms_sum : (c T : List Symbol) (i : ℕ) → IsTerms c i T → length c ≤ 32
-    → total gf (λ t. t) T ≡ value gf c (product_of_squares 9 (power gf alpha i))
+pub terms_sum : (c T : List Symbol) (i : ℕ) → IsTerms c i T → length c ≤ 32 → total gf (λ t. t) T ≡ value gf c (back_power i)
 terms_sum c T i h le =
     let y = power gf back i in
     sum_of_terms gf laws T c one_symbol y (omega (arith, h.long)) (λ k less.
@@ -90,13 +89,87 @@ terms_sum c T i h le =
     ∙ ap (product_of (get_or c k zero_symbol)) (power_swap gf laws back k i ∙ sym (one_mul gf laws (power gf y k))))
     ∙ one_mul gf laws (value gf c y) ∙ ap (value gf c) (sym (inverse_of_power i))
 
--- one place more of a list
-pub put : (f : ℕ → Symbol) (list : List Symbol) (i : ℕ) (v : Symbol) → i < length list → v ≡ f i
-    → ((k : ℕ) → k < i → get_or list k zero_symbol ≡ f k) → (k : ℕ) → k < i + 1 → get_or (set list i v) k zero_symbol ≡ f k
-put f list i v less ev h k lt = split (cases_lt k i)
-  where
-    split : (k < i) ⊎ (i ≤ k) → get_or (set list i v) k zero_symbol ≡ f k
-    split (inl l) = let ne : k ≢ i = omega arith in get_or-set_other list i k v zero_symbol ne ∙ h k l
-    split (inr g) =
-        let same : i ≡ k = omega arith in
-        subst (λ z. get_or (set list i v) z zero_symbol ≡ f z) same (get_or-set_same list i v zero_symbol less ∙ ev)
+-- the table, computed on numbers: each entry is twice the next one
+abbrev entry : ℕ → ℕ
+entry i = get_or INVERSE_POWERS i 0 % 1024
+
+abbrev step_at : ℕ → Bool
+step_at i = product 2 (entry (i + 1)) == entry i
+
+step_table : all_below 543 step_at ≡ true
+unfolding product reduced times_low
+step_table = refl
+
+first_entry : symbol (get_or INVERSE_POWERS 0 0) ≡ one_symbol
+first_entry = refl
+
+entry_next : (i : ℕ) → i < 543 → product_of alpha (symbol (get_or INVERSE_POWERS (suc i) 0)) ≡ symbol (get_or INVERSE_POWERS i 0)
+entry_next i less =
+    let one : suc i ≡ i + 1 = omega arith in
+    symbol_path (product_of alpha (symbol (get_or INVERSE_POWERS (suc i) 0))) (symbol (get_or INVERSE_POWERS i 0))
+    (value_product alpha (symbol (get_or INVERSE_POWERS (suc i) 0)) ∙ ap (λ z. product 2 (entry z)) one
+    ∙ eqb-true (product 2 (entry (i + 1))) (entry i) (all_below_at 543 step_at step_table i less))
+
+entry_inverts : (i : ℕ) → i < 544 → product_of (place i) (symbol (get_or INVERSE_POWERS i 0)) ≡ one_symbol
+entry_inverts zero less = ap (product_of one_symbol) first_entry ∙ laws.mul_one one_symbol
+entry_inverts (suc i) less =
+    laws.mul_assoc alpha (place i) (symbol (get_or INVERSE_POWERS (suc i) 0))
+    ∙ mul_left gf laws alpha (place i) (symbol (get_or INVERSE_POWERS (suc i) 0))
+    ∙ ap (product_of (place i)) (entry_next i (omega arith)) ∙ entry_inverts i (omega arith)
+
+pub inverse_powers_are : (i : ℕ) → i < 544 → symbol (get_or INVERSE_POWERS i 0) ≡ back_power i
+inverse_powers_are i less =
+    only_inverse (place i) (symbol (get_or INVERSE_POWERS i 0)) (power_apart gf laws alpha alpha_nonzero i)
+    (entry_inverts i less)
+
+-- the places from i on, m of them, where the locator has a root
+unfoldable pub roots_from : List Symbol → ℕ → ℕ → List ℕ
+roots_from c i m = filter (is_root c) (range_with_len i m)
+
+pub found_first : (c : List Symbol) (found : List ℕ) (n : ℕ) → found ≡ []
+    → take 16 (found ++ roots_from c 0 (n - 0)) ≡ take 16 (roots_below n c)
+unfolding roots_from roots_below
+found_first c found n e = let all : n - 0 ≡ n = omega arith in
+    ap (λ l. take 16 (l ++ filter (is_root c) (range_with_len 0 (n - 0)))) e
+    ∙ ap (λ m. take 16 (filter (is_root c) (range_with_len 0 m))) all
+
+-- a root is found, or there are sixteen, or place i is none
+pub found_root : (c : List Symbol) (found all : List ℕ) (n i : ℕ) → i < n → is_root c i ≡ true
+    → take 16 (found ++ roots_from c i (n - i)) ≡ all
+    → take 16 ((found ++ i ∷ []) ++ roots_from c (i + 1) (n - (i + 1))) ≡ all
+unfolding roots_from
+found_root c found all n i less e h =
+    let m = n - (i + 1) in
+    let more : suc m ≡ n - i = omega arith in
+    ap (take 16) (append_assoc found (i ∷ []) (filter (is_root c) (range_with_len (i + 1) m)))
+    ∙ ap (λ b. take 16 (found ++ cond b (i ∷ filter (is_root c) (range_with_len (i + 1) m))
+    (filter (is_root c) (range_with_len (i + 1) m)))) (sym e)
+    ∙ ap (λ z. take 16 (found ++ filter (is_root c) (range_with_len i z))) more ∙ h
+
+pub found_none : (c : List Symbol) (found all : List ℕ) (n i : ℕ) → i < n → is_root c i ≡ false
+    → take 16 (found ++ roots_from c i (n - i)) ≡ all → take 16 (found ++ roots_from c (i + 1) (n - (i + 1))) ≡ all
+unfolding roots_from
+found_none c found all n i less e h =
+    let m = n - (i + 1) in
+    let more : suc m ≡ n - i = omega arith in
+    ap (λ b. take 16 (found ++ cond b (i ∷ filter (is_root c) (range_with_len (i + 1) m))
+    (filter (is_root c) (range_with_len (i + 1) m)))) (sym e)
+    ∙ ap (λ z. take 16 (found ++ filter (is_root c) (range_with_len i z))) more ∙ h
+
+take_enough : (found more : List ℕ) (n : ℕ) → n ≤ length found → take n (found ++ more) ≡ take n found
+take_enough found more zero le = refl
+take_enough [] more (suc n) le = absurd (omega arith)
+take_enough (x ∷ xs) more (suc n) le = ap (λ l. x ∷ l) (take_enough xs more n (omega arith))
+
+pub found_enough : (c : List Symbol) (found all : List ℕ) (n i : ℕ) → 16 ≤ length found
+    → take 16 (found ++ roots_from c i (n - i)) ≡ all → take 16 (found ++ roots_from c (i + 1) (n - (i + 1))) ≡ all
+found_enough c found all n i le h =
+    take_enough found (roots_from c (i + 1) (n - (i + 1))) 16 le ∙ sym (take_enough found (roots_from c i (n - i)) 16 le) ∙ h
+
+pub found_last : (c : List Symbol) (found all : List ℕ) (n i : ℕ) → n ≤ i → length found ≤ 16
+    → take 16 (found ++ roots_from c i (n - i)) ≡ all → found ≡ all
+unfolding roots_from
+found_last c found all n i le few h =
+    let none : n - i ≡ 0 = omega arith in
+    sym (take_all 16 found few) ∙ ap (take 16) (sym (append-nil found))
+    ∙ ap (λ z. take 16 (found ++ filter (is_root c) (range_with_len i z))) (sym none) ∙ h
