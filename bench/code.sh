@@ -1,13 +1,13 @@
 #!/usr/bin/env bash
-# Times encode and syndromes of rs_code in a proved program, and beside them a copy of a codeword
-# and, where rustc is there, a loop over logarithm tables in Rust. Makes and removes a folder of
+# Times encode and syndromes of rs_code and correct of rs_decode in a proved program, and beside them
+# a copy of a codeword and, where rustc is there, a loop over logarithm tables in Rust. Makes and removes a folder of
 # its own. Its last lines give the ratios.
 set -eu
 here=$(cd "$(dirname "$0")" && pwd)
 work=$(mktemp -d)
 trap 'rm -rf "$work"' EXIT
 mkdir "$work/crates"
-for crate in bit_lists field_base gf1024 gf_lanes rs_code; do
+for crate in bit_lists field_base gf1024 gf_lanes rs_code rs_decode; do
     mkdir "$work/crates/$crate"
     cp -r "$here/../crates/$crate/"{src,specs,proofs} "$work/crates/$crate/"
     grep "^$crate:" "$here/../crates.txt" >> "$work/crates.txt"
@@ -18,7 +18,7 @@ rm -rf BUILD.bazel crates/code_bench/{BUILD.bazel,stdin,stdout,src,specs,proofs}
 mkdir crates/code_bench/src
 # The source lies there under another name, since the gate reads no code outside crates/.
 cp "$here/code_bench.rt.txt" crates/code_bench/src/main.rt
-echo "code_bench: gf1024 rs_code" >> crates.txt
+echo "code_bench: gf1024 rs_code rs_decode" >> crates.txt
 cd crates/code_bench
 rt run > "$work/times" 2>> "$work/log" || { tail -20 "$work/log"; exit 1; }
 cd "$work"

@@ -1,6 +1,6 @@
 -- The values and the errors in lanes.
 use Rattle.std.proofs.Common.{◌≡◌, ℕ, zero, suc, ◌+◌, ◌-◌, ◌<◌, List, length, get_or, drop, replicate}
-use Rattle.std.proofs.Common.{sym, ap, ap₂, ◌∙◌, subst, arith}
+use Rattle.std.proofs.Common.{sym, ap, ◌∙◌, arith}
 use Rattle.std.proofs.lemmas.Simd.{get_or-replicate}
 use Rattle.std.proofs.lemmas.List.{get_or_default}
 use Rattle.gf1024.specs.Symbol.{Symbol, gf, zero_symbol, one_symbol, sum_of, product_of, alpha, product_of_squares}

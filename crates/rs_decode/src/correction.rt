@@ -9,6 +9,9 @@ use crate::roots::root_places;
 use gf1024::Gf;
 use rs_code::syndromes;
 
+/// The most errors that are corrected in a word.
+const MOST: usize = 15;
+
 /// Replaces the word by the codeword within fifteen places, and tells in how many places it
 /// differed. `None` where there is no such codeword; the word is as it was then.
 pub fn correct(word: &mut [Gf; 544]) -> Option<u8>
@@ -21,7 +24,7 @@ pub fn correct(word: &mut [Gf; 544]) -> Option<u8>
     }
     let recurrence = shortest_recurrence(&values);
     let count = recurrence.length;
-    if count > 15 {
+    if count > MOST {
         return None;
     }
     let places = root_places(&recurrence.poly);

@@ -1,4 +1,4 @@
-use Rattle.std.proofs.Common.{◌-◌, ◌∙◌, ap, sym, get_or, arith}
+use Rattle.std.proofs.Common.{◌∙◌, ap, get_or}
 use Rattle.std.proofs.lemmas.Simd.{get_or-replicate}
 use Rattle.gf1024.specs.Symbol.{product_of, product_of_squares, zero_symbol}
 use Rattle.gf1024.proofs.Loops.{inverse_first, inverse_last}

@@ -1,7 +1,7 @@
-use Rattle.std.proofs.Common.{◌≡◌, ◌≤◌, ◌++◌, ◌∷◌, [], ◌+◌, ◌-◌, List, ℕ, length, take, true, refl, sym, ap, ◌∙◌, subst, arith}
+use Rattle.std.proofs.Common.{◌≡◌, ◌≤◌, ◌++◌, ◌∷◌, [], ◌+◌, ◌-◌, length, take, true, sym, ap, ◌∙◌, subst, arith}
 use Rattle.std.proofs.lemmas.Bool.{eq-eqb, false≢true}
 use Rattle.std.proofs.lemmas.List.{length-append}
-use Rattle.gf1024.specs.Symbol.{gf, zero_symbol}
+use Rattle.gf1024.specs.Symbol.{gf}
 use Rattle.field_base.specs.Poly.{value}
 use Rattle.rs_decode.specs.Repair.{back_power, is_root, roots_below}
 use Rattle.rs_decode.proofs.Repair.{root_test}
