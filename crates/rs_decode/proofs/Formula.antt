@@ -42,10 +42,10 @@ module _ (F : Field) (L : Laws F) where
   open F use {carrier, mul}
 
   interchange : (p q r s : carrier) → mul (mul p q) (mul r s) ≡ mul (mul p r) (mul q s)
-  interchange p q r s = simp (L.mul_assoc, L.mul_comm, mul_left F L)
+  interchange p q r s = simp (L.mul_assoc, mul_left F L)
 
   turned : (p q r : carrier) → mul p (mul q r) ≡ mul (mul q p) r
-  turned p q r = simp (L.mul_assoc, L.mul_comm, mul_left F L)
+  turned p q r = simp (L.mul_assoc, L.mul_comm)
 
 inverse_of_product : (k : ℕ) (a b : Symbol)
     → product_of_squares k (product_of a b) ≡ product_of (product_of_squares k a) (product_of_squares k b)

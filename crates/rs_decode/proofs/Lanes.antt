@@ -131,7 +131,7 @@ kept_lanes c b S d e h = record {
 }
 
 -- the lists in lanes, with the latest symbols
-pub record Search (symbols : List Symbol) (n : ℕ) (A B W : List Symbol) (k : ℕ) : Type 0 where
+pub record Progress (symbols : List Symbol) (n : ℕ) (A B W : List Symbol) (k : ℕ) : Type 0 where
   pub here : List Symbol
   pub other : List Symbol
   pub holds : Holds symbols n here other k
@@ -139,9 +139,9 @@ pub record Search (symbols : List Symbol) (n : ℕ) (A B W : List Symbol) (k : �
   pub other_lanes : InLanes other B
   pub latest_lanes : AreLatest symbols n W
 
-pub search_first : (s A Z : List Symbol) (x z : Symbol) → StartsAs 32 (x ∷ Z) A → x ≡ one_symbol → Z ≡ replicate 32 z
-    → z ≡ zero_symbol → Search s 0 A Z Z 0
-search_first s A Z x z ea ex ez e = record {
+pub progress_first : (s A Z : List Symbol) (x z : Symbol) → StartsAs 32 (x ∷ Z) A → x ≡ one_symbol → Z ≡ replicate 32 z
+    → z ≡ zero_symbol → Progress s 0 A Z Z 0
+progress_first s A Z x z ea ex ez e = record {
   here = one_symbol ∷ [];
   other = zero_symbol ∷ zero_symbol ∷ [];
   holds = holds_first s;
@@ -159,9 +159,9 @@ pub length_here : (s here other : List Symbol) (n k : ℕ) → Holds s n here ot
 length_here s here other n k h = let e : length here ≡ suc (length (rest gf here)) = ap length h.begins in
     omega (arith, h.state.long)
 
-pub search_last : (s A B W front : List Symbol) (n k : ℕ) → n ≡ length s → n ≤ 30 → Search s n A B W k
+pub progress_last : (s A B W front : List Symbol) (n k : ℕ) → n ≡ length s → n ≤ 30 → Progress s n A B W k
     → StartsAs (k + 1) A front → IsRecurrence s k front
-search_last s A B W front n k all small h starts =
+progress_last s A B W front n k all small h starts =
     let state = h.holds.state in
     let short = state.short in
     let long : length h.here ≡ k + 1 = length_here s h.here h.other n k h.holds in

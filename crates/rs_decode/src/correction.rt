@@ -1,3 +1,4 @@
+//! The codeword near a word.
 ghost use Rattle.std.specs.Prelude.{◌≡◌, ℕ, ◌<◌, ◌↔◌, IsTrue, option_map, unwrap_or, slice_index_or};
 ghost use Rattle.gf1024.specs.Symbol.{zero_symbol};
 ghost use Rattle.rs_code.specs.Code.{distance};

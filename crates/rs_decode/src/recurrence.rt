@@ -1,3 +1,4 @@
+//! The shortest recurrence of the values of a word, found in lanes.
 ghost use Rattle.std.specs.Prelude.{◌≡◌, ◌≤◌, ◌∷◌, length};
 ghost use Rattle.rs_decode.specs.Recurrence.{IsRecurrence, StartsAs};
 
@@ -25,6 +26,8 @@ pub fn shortest_recurrence_of(sequence: &[Gf]) -> Recurrence
     requires { length sequence.now ≤ 30 }
     ensures { IsRecurrence sequence.now result.length result.poly }
 {
+    // `here` is 1 and then a shortest list for the symbols so far, and `other` a list whose sum along
+    // the symbols is 0 at each place so far and 1 at the next one (Berlekamp and Massey).
     let zeros = Gf32::new([Gf::low(0); 32]);
     let mut here = behind(Gf::low(1), zeros);
     let mut other = zeros;
@@ -32,10 +35,10 @@ pub fn shortest_recurrence_of(sequence: &[Gf]) -> Recurrence
     let mut length = 0;
     for n in 0..sequence.len() {
         latest = behind(sequence[n], latest);
-        let fault = sum(mul(here, latest));
-        let next = add(here, mul(Gf32::new([fault; 32]), other));
-        if !fault.is_zero() && 2 * length <= n {
-            other = mul(Gf32::new([fault.inverse(); 32]), here);
+        let discrepancy = sum(mul(here, latest));
+        let next = add(here, mul(Gf32::new([discrepancy; 32]), other));
+        if !discrepancy.is_zero() && 2 * length <= n {
+            other = mul(Gf32::new([discrepancy.inverse(); 32]), here);
             length = n + 1 - length;
         }
         other = behind(Gf::low(0), other);

@@ -4,7 +4,7 @@ use Rattle.std.proofs.lemmas.List.{get_or_default}
 use Rattle.gf1024.specs.Symbol.{zero_symbol}
 use Rattle.rs_decode.specs.Recurrence.{sum_along}
 use Rattle.rs_decode.proofs.Steps.{step_keeps, step_adjusts, step_lengthens, mended, multiple, one_more}
-use Rattle.rs_decode.proofs.Lanes.{search_first, search_last, length_here, latest_next, lanes_along, AreLatest}
+use Rattle.rs_decode.proofs.Lanes.{progress_first, progress_last, length_here, latest_next, lanes_along, AreLatest}
 use Rattle.rs_decode.proofs.Lanes.{mended_lanes, multiple_lanes, kept_lanes, behind_lanes, InLanes}
 use Rattle.rs_decode.proofs.recurrence.shortest_recurrence_of.Goals.{then-not-is_zero+then-length-n, else-not-is_zero}
 use Rattle.rs_decode.proofs.recurrence.shortest_recurrence_of.Goals.{else-not-is_zero-via-then-not-is_zero+else-length-n}
@@ -13,7 +13,7 @@ use Rattle.rs_decode.proofs.recurrence.shortest_recurrence_of.Goals as goal
 
 pub loop-n-init : goal.loop-n-init
 loop-n-init c =
-    search_first c.args.sequence.now c.behind-here.result c.new-zeros.result c.low-2.result c.low.result
+    progress_first c.args.sequence.now c.behind-here.result c.new-zeros.result c.low-2.result c.low.result
     c.behind-here.ensures c.low-2.ensures c.new-zeros.ensures c.low.ensures
 
 pub loop-n-preserved : goal.loop-n-preserved
@@ -22,14 +22,14 @@ loop-n-preserved c =
     let s = c.args.sequence.now in
     let n = c.loop-n.n in
     let k = c.loop-n.length in
-    let fault = c.sum-fault.result in
+    let fault = c.sum-discrepancy.result in
     let x = c.index-sequence-n.result in
     let now = latest_next s c.loop-n.latest c.behind-latest.result n x c.behind-latest.ensures
     (c.index-sequence-n.is ∙ get_or_default s n x zero_symbol c.loop-n-test.true) h.latest_lanes in
     let short = h.holds.state.short in
     let long = length_here s h.here h.other n k h.holds in
     let found : fault ≡ sum_along h.here s n =
-    c.sum-fault.ensures
+    c.sum-discrepancy.ensures
     ∙ lanes_along h.here s c.loop-n.here c.behind-latest.result c.mul.result n (omega arith) h.here_lanes now c.mul.ensures in
     let next = mended_lanes h.here h.other c.loop-n.here c.loop-n.other c.new.result c.mul-in-loop-n.result
     c.add-next.result fault h.here_lanes h.other_lanes c.new.ensures c.mul-in-loop-n.ensures c.add-next.ensures in
@@ -87,5 +87,5 @@ loop-n-preserved c =
 pub returns : goal.returns
 returns c =
     let long : c.loop-n.n ≡ length c.args.sequence.now = omega arith in
-    search_last c.args.sequence.now c.loop-n.here c.loop-n.other c.loop-n.latest c.front.result c.loop-n.n c.loop-n.length
+    progress_last c.args.sequence.now c.loop-n.here c.loop-n.other c.loop-n.latest c.front.result c.loop-n.n c.loop-n.length
     long (omega arith) c.loop-n.invariant c.front.ensures
