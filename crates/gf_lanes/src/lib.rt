@@ -64,6 +64,16 @@ pub fn mul(a: Gf32, b: Gf32) -> Gf32
     }
 }
 
+/// The sum lane by lane.
+#[inline(always)]
+pub fn add(a: Gf32, b: Gf32) -> Gf32
+    ensures { EachLane sum_of a b result }
+{
+    Gf32 {
+        lanes: a.lanes ^ b.lanes,
+    }
+}
+
 /// `a * step + c` lane by lane. A loop that keeps `step` takes its multiples once.
 #[inline(always)]
 pub fn horner(a: Gf32, step: Gf32, c: Gf) -> Gf32

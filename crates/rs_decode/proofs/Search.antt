@@ -1,0 +1,175 @@
+-- The locator's values from place to place, as sums of terms in lanes.
+use Rattle.std.proofs.Common.{◌≡◌, ℕ, zero, suc, ◌+◌, ◌-◌, ◌%◌, ◌<◌, ◌≤◌, Bool, true, false, List, [], ◌∷◌, ◌++◌, length, get_or}
+use Rattle.std.proofs.Common.{take, cond, ◌==◌, refl, sym, ap, ap₂, ◌∙◌, append_assoc, arith}
+use Rattle.std.specs.List.{filter, range_with_len}
+use Rattle.std.proofs.lemmas.Bool.{eqb-true}
+use Rattle.std.proofs.lemmas.List.{take_all, append-nil}
+use Rattle.gf1024.specs.Symbol.{Symbol, gf, zero_symbol, one_symbol, symbol, product_of, alpha, product_of_squares}
+use Rattle.gf1024.specs.Word.{product, reduced, times_low}
+use Rattle.gf1024.proofs.FieldLaws.{laws, symbol_path, value_product}
+use Rattle.gf1024.proofs.Linear.{all_below, all_below_at}
+use Rattle.gf1024.proofs.Powers.{alpha_nonzero}
+use Rattle.field_base.specs.Field.{Field, Laws, power, total}
+use Rattle.field_base.specs.Poly.{value}
+use Rattle.field_base.proofs.Ring.{zero_mul, mul_zero, zero_add, one_mul, mul_left}
+use Rattle.field_base.proofs.Shorter.{power_apart}
+use Rattle.field_base.proofs.Words.{power_of_product, power_of_one}
+use Rattle.gf_lanes.specs.Lanes.{EachLane}
+use Rattle.rs_decode.specs.Recurrence.{StartsAs}
+use Rattle.rs_decode.specs.Repair.{place, back_power, is_root, roots_below}
+use Rattle.rs_decode.specs.declared.roots.TheConstants.{INVERSE_POWERS}
+use Rattle.rs_decode.proofs.Steps.{only_inverse}
+
+module _ (F : Field) (L : Laws F) where
+  open F use {carrier, add, mul, zero_element, one}
+
+  -- the sum of c[k] p y^k is p times the value at y
+  pub sum_of_terms : (T c : List carrier) (p y : carrier) → length c ≤ length T
+      → ((k : ℕ) → k < length T → get_or T k zero_element ≡ mul (get_or c k zero_element) (mul p (power F y k)))
+      → total F (λ t. t) T ≡ mul p (value F c y)
+  sum_of_terms [] [] p y le h = sym (mul_zero F L p)
+  sum_of_terms [] (c ∷ cs) p y le h = absurd (omega arith)
+  sum_of_terms (t ∷ ts) [] p y le h =
+      let later : total F (λ t. t) ts ≡ mul p zero_element =
+      sum_of_terms ts [] p y (omega arith) (λ k less.
+      h (suc k) (omega arith) ∙ zero_mul F L (mul p (power F y (suc k))) ∙ sym (zero_mul F L (mul p (power F y k)))) in
+      ap (λ z. add z (total F (λ t. t) ts)) (h zero (omega arith) ∙ zero_mul F L (mul p one))
+      ∙ zero_add F L (total F (λ t. t) ts) ∙ later
+  sum_of_terms (t ∷ ts) (c ∷ cs) p y le h =
+      let v = value F cs y in
+      let later : total F (λ t. t) ts ≡ mul (mul p y) v =
+      sum_of_terms ts cs (mul p y) y (omega arith) (λ k less.
+      h (suc k) (omega arith) ∙ ap (mul (get_or cs k zero_element)) (sym (L.mul_assoc p y (power F y k)))) in
+      ap (λ z. add z (total F (λ t. t) ts)) (h zero (omega arith) ∙ ap (mul c) (L.mul_one p) ∙ L.mul_comm c p)
+      ∙ ap (add (mul p c)) (later ∙ L.mul_assoc p y v) ∙ sym (L.mul_add p c (mul y v))
+
+  pub power_swap : (b : carrier) (k i : ℕ) → power F (power F b k) i ≡ power F (power F b i) k
+  power_swap b zero i = power_of_one F L i
+  power_swap b (suc k) i = power_of_product F L b (power F b k) i ∙ ap (mul (power F b i)) (power_swap b k i)
+
+abbrev pub back : Symbol
+back = product_of_squares 9 alpha
+
+-- the inverse of a^i
+pub inverse_of_power : (i : ℕ) → product_of_squares 9 (power gf alpha i) ≡ power gf back i
+inverse_of_power i =
+    sym (only_inverse (power gf alpha i) (power gf back i) (power_apart gf laws alpha alpha_nonzero i)
+    (sym (power_of_product gf laws alpha back i)
+    ∙ ap (λ z. power gf z i) (laws.mul_inverse alpha alpha_nonzero) ∙ power_of_one gf laws i))
+
+-- lane k at place i
+pub record IsTerms (c : List Symbol) (i : ℕ) (T : List Symbol) : Type 0 where
+  pub long : length T ≡ 32
+  pub each : (k : ℕ) → k < 32 → get_or T k zero_symbol ≡ product_of (get_or c k zero_symbol) (power gf (power gf back k) i)
+
+pub terms_first : (c T : List Symbol) → StartsAs 32 c T → IsTerms c 0 T
+terms_first c T h = record {
+  long = h.long;
+  each = λ k less. h.each k less ∙ sym (laws.mul_one (get_or c k zero_symbol));
+}
+
+pub terms_next : (c T steps new : List Symbol) (i : ℕ) → IsTerms c i T
+    → ((k : ℕ) → k < 32 → get_or steps k zero_symbol ≡ back_power k) → EachLane product_of steps T new
+    → IsTerms c (i + 1) new
+terms_next c T steps new i h hs lanes = record {
+  long = lanes.long;
+  each = λ k less.
+      let q = power gf back k in
+      let one : suc i ≡ i + 1 = omega arith in
+      lanes.each k less ∙ ap₂ product_of (hs k less ∙ inverse_of_power k) (h.each k less)
+      ∙ mul_left gf laws q (get_or c k zero_symbol) (power gf q i)
+      ∙ ap (λ z. product_of (get_or c k zero_symbol) (power gf q z)) one;
+}
+
+pub terms_sum : (c T : List Symbol) (i : ℕ) → IsTerms c i T → length c ≤ 32 → total gf (λ t. t) T ≡ value gf c (back_power i)
+terms_sum c T i h le =
+    let y = power gf back i in
+    sum_of_terms gf laws T c one_symbol y (omega (arith, h.long)) (λ k less.
+    h.each k (omega (arith, h.long))
+    ∙ ap (product_of (get_or c k zero_symbol)) (power_swap gf laws back k i ∙ sym (one_mul gf laws (power gf y k))))
+    ∙ one_mul gf laws (value gf c y) ∙ ap (value gf c) (sym (inverse_of_power i))
+
+-- the table, computed on numbers: each entry is twice the next one
+abbrev entry : ℕ → ℕ
+entry i = get_or INVERSE_POWERS i 0 % 1024
+
+abbrev step_at : ℕ → Bool
+step_at i = product 2 (entry (i + 1)) == entry i
+
+step_table : all_below 543 step_at ≡ true
+unfolding product reduced times_low
+step_table = refl
+
+first_entry : symbol (get_or INVERSE_POWERS 0 0) ≡ one_symbol
+first_entry = refl
+
+entry_next : (i : ℕ) → i < 543 → product_of alpha (symbol (get_or INVERSE_POWERS (suc i) 0)) ≡ symbol (get_or INVERSE_POWERS i 0)
+entry_next i less =
+    let one : suc i ≡ i + 1 = omega arith in
+    symbol_path (product_of alpha (symbol (get_or INVERSE_POWERS (suc i) 0))) (symbol (get_or INVERSE_POWERS i 0))
+    (value_product alpha (symbol (get_or INVERSE_POWERS (suc i) 0)) ∙ ap (λ z. product 2 (entry z)) one
+    ∙ eqb-true (product 2 (entry (i + 1))) (entry i) (all_below_at 543 step_at step_table i less))
+
+entry_inverts : (i : ℕ) → i < 544 → product_of (place i) (symbol (get_or INVERSE_POWERS i 0)) ≡ one_symbol
+entry_inverts zero less = ap (product_of one_symbol) first_entry ∙ laws.mul_one one_symbol
+entry_inverts (suc i) less =
+    laws.mul_assoc alpha (place i) (symbol (get_or INVERSE_POWERS (suc i) 0))
+    ∙ mul_left gf laws alpha (place i) (symbol (get_or INVERSE_POWERS (suc i) 0))
+    ∙ ap (product_of (place i)) (entry_next i (omega arith)) ∙ entry_inverts i (omega arith)
+
+pub inverse_powers_are : (i : ℕ) → i < 544 → symbol (get_or INVERSE_POWERS i 0) ≡ back_power i
+inverse_powers_are i less =
+    only_inverse (place i) (symbol (get_or INVERSE_POWERS i 0)) (power_apart gf laws alpha alpha_nonzero i)
+    (entry_inverts i less)
+
+-- the places from i on, m of them, where the locator has a root
+unfoldable pub roots_from : List Symbol → ℕ → ℕ → List ℕ
+roots_from c i m = filter (is_root c) (range_with_len i m)
+
+pub found_first : (c : List Symbol) (found : List ℕ) (n : ℕ) → found ≡ []
+    → take 16 (found ++ roots_from c 0 (n - 0)) ≡ take 16 (roots_below n c)
+unfolding roots_from roots_below
+found_first c found n e = let all : n - 0 ≡ n = omega arith in
+    ap (λ l. take 16 (l ++ filter (is_root c) (range_with_len 0 (n - 0)))) e
+    ∙ ap (λ m. take 16 (filter (is_root c) (range_with_len 0 m))) all
+
+-- a root is found, or there are sixteen, or place i is none
+pub found_root : (c : List Symbol) (found all : List ℕ) (n i : ℕ) → i < n → is_root c i ≡ true
+    → take 16 (found ++ roots_from c i (n - i)) ≡ all
+    → take 16 ((found ++ i ∷ []) ++ roots_from c (i + 1) (n - (i + 1))) ≡ all
+unfolding roots_from
+found_root c found all n i less e h =
+    let m = n - (i + 1) in
+    let more : suc m ≡ n - i = omega arith in
+    ap (take 16) (append_assoc found (i ∷ []) (filter (is_root c) (range_with_len (i + 1) m)))
+    ∙ ap (λ b. take 16 (found ++ cond b (i ∷ filter (is_root c) (range_with_len (i + 1) m))
+    (filter (is_root c) (range_with_len (i + 1) m)))) (sym e)
+    ∙ ap (λ z. take 16 (found ++ filter (is_root c) (range_with_len i z))) more ∙ h
+
+pub found_none : (c : List Symbol) (found all : List ℕ) (n i : ℕ) → i < n → is_root c i ≡ false
+    → take 16 (found ++ roots_from c i (n - i)) ≡ all → take 16 (found ++ roots_from c (i + 1) (n - (i + 1))) ≡ all
+unfolding roots_from
+found_none c found all n i less e h =
+    let m = n - (i + 1) in
+    let more : suc m ≡ n - i = omega arith in
+    ap (λ b. take 16 (found ++ cond b (i ∷ filter (is_root c) (range_with_len (i + 1) m))
+    (filter (is_root c) (range_with_len (i + 1) m)))) (sym e)
+    ∙ ap (λ z. take 16 (found ++ filter (is_root c) (range_with_len i z))) more ∙ h
+
+take_enough : (found more : List ℕ) (n : ℕ) → n ≤ length found → take n (found ++ more) ≡ take n found
+take_enough found more zero le = refl
+take_enough [] more (suc n) le = absurd (omega arith)
+take_enough (x ∷ xs) more (suc n) le = ap (λ l. x ∷ l) (take_enough xs more n (omega arith))
+
+pub found_enough : (c : List Symbol) (found all : List ℕ) (n i : ℕ) → 16 ≤ length found
+    → take 16 (found ++ roots_from c i (n - i)) ≡ all → take 16 (found ++ roots_from c (i + 1) (n - (i + 1))) ≡ all
+found_enough c found all n i le h =
+    take_enough found (roots_from c (i + 1) (n - (i + 1))) 16 le ∙ sym (take_enough found (roots_from c i (n - i)) 16 le) ∙ h
+
+pub found_last : (c : List Symbol) (found all : List ℕ) (n i : ℕ) → n ≤ i → length found ≤ 16
+    → take 16 (found ++ roots_from c i (n - i)) ≡ all → found ≡ all
+unfolding roots_from
+found_last c found all n i le few h =
+    let none : n - i ≡ 0 = omega arith in
+    sym (take_all 16 found few) ∙ ap (take 16) (sym (append-nil found))
+    ∙ ap (λ z. take 16 (found ++ filter (is_root c) (range_with_len i z))) (sym none) ∙ h
