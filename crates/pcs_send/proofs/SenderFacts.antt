@@ -1,6 +1,6 @@
 -- The answers of a sender's calls.
-use Rattle.std.proofs.Common.{◌≡◌, ℕ, ◌+◌, ◌-◌, ◌*◌, ◌<◌, ◌≤◌, Bool, true, false, cond, ◌==◌, ◌&&◌, ◌||◌, List, [], ◌∷◌, ◌++◌, length, take, Ok, Err, Result, ◌⊎◌}
-use Rattle.std.proofs.Common.{refl, sym, ◌∙◌, ap, ap₂, arith, inl, inr, subst, length-take-le, length-set, set}
+use Rattle.std.proofs.Common.{◌≡◌, ℕ, ◌+◌, ◌-◌, ◌*◌, ◌<◌, ◌≤◌, Bool, true, false, cond, ◌==◌, ◌&&◌, ◌||◌, ◌⊎◌, Ok, Err, Result}
+use Rattle.std.proofs.Common.{List, [], ◌∷◌, ◌++◌, length, take, set, refl, sym, ◌∙◌, ap, ap₂, arith, inl, inr, subst, length-take-le, length-set}
 use Rattle.std.specs.Prelude.{nat_lt, not}
 use Rattle.std.proofs.lemmas.Bool.{cases_lt, eqb-true, eqb-false, lt-ltb, le-ltb}
 use Rattle.std.proofs.lemmas.List.{take_all, drop_all, take_more_set}
@@ -10,23 +10,25 @@ use Rattle.mac_columns.specs.declared.column.Column.{Column}
 use Rattle.block66.specs.declared.Block.{Block}
 use Rattle.block66.specs.Blocks.{block_of}
 use Rattle.rate_match.specs.Thinning.{leaves, accepts}
-use Rattle.scramble58.specs.Histories.{ScramblerStands}
-use Rattle.marker_table.specs.Groups.{GroupsStand}
-use Rattle.pcs_send.specs.Transmission.{wides_before, stream}
-use Rattle.pcs_send.specs.Histories.{Sending, sending, first_column, end_column, is_begun, begins_group, with_column, placed_answer, after_put, put_answer}
-use Rattle.pcs_send.specs.Holding.{State, Holds, Stands, is_grouped, is_ready, starts_group, groups_in, TakesGroup, TakesBlock}
-use Rattle.pcs_send.proofs.Pairs.{wides-zero}
-use Rattle.pcs_send.specs.declared.sender.Put.{Put}
 use Rattle.rate_match.specs.declared.thin.TooTight.{TooTight}
 use Rattle.rate_match.specs.declared.thin.Thinned.TheVariants.{Left, Keep}
+use Rattle.scramble58.specs.Histories.{ScramblerStands}
+use Rattle.marker_table.specs.Groups.{GroupsStand}
+use Rattle.pcs_send.specs.declared.sender.Put.{Put}
 use Rattle.pcs_send.specs.declared.sender.Put.TheVariants.{More}
+use Rattle.pcs_send.specs.Transmission.{wides_before, stream}
+use Rattle.pcs_send.specs.Histories.{Sending, sending, first_column, end_column, is_begun, begins_group, with_column}
+use Rattle.pcs_send.specs.Histories.{placed_answer, after_put, put_answer}
+use Rattle.pcs_send.specs.Holding.{State, IsSender, Holds, Stands, is_grouped, is_ready, starts_group, groups_in, TakesGroup, TakesBlock}
+use Rattle.pcs_send.proofs.Pairs.{wides-zero}
 use Rattle.pcs_send.proofs.Payload.{payload_bits-nil}
-use Rattle.pcs_send.proofs.HoldFacts.{blocks_are, grouped_none, count_is, and_true, and_false, no_wides, no_blocks, not_full, begins_is, few_wides, all_wides}
+use Rattle.pcs_send.proofs.HoldFacts.{blocks_are, grouped_none, count_is, and_true, and_false, no_wides, no_blocks, not_full}
+use Rattle.pcs_send.proofs.HoldFacts.{begins_is, few_wides, all_wides}
 use Rattle.pcs_send.proofs.StepFacts.{length-stream, group_placed, no_group, with_debt, column_placed}
 
 -- a sender that has placed nothing
-pub new_stands : (s : State) → 1 ≤ s.period → s.debt ≡ 0 → s.turn ≡ 0 → s.blocks ≡ [] → s.wides ≡ [] → ScramblerStands s.last [] → GroupsStand s.pad 0
-    → Stands s (sending s.period)
+pub new_stands : (s : State) → 1 ≤ s.period → s.debt ≡ 0 → s.turn ≡ 0 → s.blocks ≡ [] → s.wides ≡ []
+    → ScramblerStands s.last [] → GroupsStand s.pad 0 → Stands s (sending s.period)
 unfolding Stands
 new_stands s least debt turn blocks wides last pad =
     let none : is_grouped s (sending s.period) ≡ false = grouped_none s (sending s.period) (omega (arith, wides-zero s.period)) in
@@ -51,13 +53,18 @@ has_room s waits room = omega (arith, room, eqb-false (length s.wides) 40 waits)
 
 module _ (s : State) (h : Sending) where
   -- a wide or a block is in hand exactly where a column is placed
-  pub begun_is : Stands s h → (nat_lt (length s.wides) 40 && (nat_lt 0 (length s.wides) || nat_lt 0 (length s.blocks))) ≡ is_begun h
+  pub begun_is : Stands s h
+      → (nat_lt (length s.wides) 40 && (nat_lt 0 (length s.wides) || nat_lt 0 (length s.blocks))) ≡ is_begun h
   unfolding Stands
   begun_is o = elim (cases_lt (first_column h) (length h.placed)) [
-    | inl more ↦ ap₂ (λ a b. a && b) room (some more s.turn refl) ∙ and_true (nat_lt (length h.placed) (end_column h))
+    | inl more ↦
+        ap₂ (λ a b. a && b) room (some more s.turn refl)
+        ∙ and_true (nat_lt (length h.placed) (end_column h))
         ∙ sym (ap (λ a. a && nat_lt (length h.placed) (end_column h)) (lt-ltb (first_column h) (length h.placed) more))
     | inr none ↦
-        ap₂ (λ a b. nat_lt (length s.wides) 40 && (a || b)) (le-ltb 0 (length s.wides) (omega (arith, no_wides s h o none))) (le-ltb 0 (length s.blocks) (omega (arith, no_blocks s h (is_grouped s h) o none)))
+        ap₂ (λ a b. nat_lt (length s.wides) 40 && (a || b))
+        (le-ltb 0 (length s.wides) (omega (arith, no_wides s h o none)))
+        (le-ltb 0 (length s.blocks) (omega (arith, no_blocks s h (is_grouped s h) o none)))
         ∙ and_false (nat_lt (length s.wides) 40)
         ∙ sym (ap (λ a. a && nat_lt (length h.placed) (end_column h)) (le-ltb (first_column h) (length h.placed) none))
   ] where
@@ -87,11 +94,22 @@ module _ (s : State) (h : Sending) where
       | inr block ↦ either (nat_lt 0 (length s.wides)) (nat_lt 0 (length s.blocks)) (inr (lt-ltb 0 (length s.blocks) block))
     ]
 
-  pub begun_by : (w b : ℕ) → length s.wides ≡ w → length s.blocks ≡ b → Stands s h → (nat_lt w 40 && (nat_lt 0 w || nat_lt 0 b)) ≡ is_begun h
+  pub begun_by : (w b : ℕ) → length s.wides ≡ w → length s.blocks ≡ b → Stands s h
+      → (nat_lt w 40 && (nat_lt 0 w || nat_lt 0 b)) ≡ is_begun h
   begun_by w b wides blocks o = ap₂ (λ w b. nat_lt w 40 && (nat_lt 0 w || nat_lt 0 b)) (sym wides) (sym blocks) ∙ begun_is o
 
+  -- told by the two counts of a sender
+  pub begun_held : (period turn b w : ℕ) (blocks : List Block) (wides : List (List ℕ)) → IsSender period turn blocks b wides w
+      → take b blocks ≡ s.blocks → take w wides ≡ s.wides → Stands s h → (nat_lt w 40 && (nat_lt 0 w || nat_lt 0 b)) ≡ is_begun h
+  begun_held period turn b w blocks wides is few held o =
+      begun_by w b
+      (ap length (sym held) ∙ length-take-le w wides (omega (arith, is.forty, is.room)))
+      (ap length (sym few) ∙ length-take-le b blocks (omega (arith, is.four, is.few)))
+      o
+
   -- a group where one is due, and then the block of the column
-  pub place_stands : (c : Column) (mid new : State) → Stands s h → is_ready s ≡ false → (starts_group s ≡ true → TakesGroup s mid) → (starts_group s ≡ false → mid ≡ s)
+  pub place_stands : (c : Column) (mid new : State) → Stands s h → is_ready s ≡ false
+      → (starts_group s ≡ true → TakesGroup s mid) → (starts_group s ≡ false → mid ≡ s)
       → TakesBlock mid new (block_of c) → Stands new (with_column h c)
   place_stands c mid new o waits group other t = at (starts_group s) refl where
     first : (a b c : Bool) → (a && b && c) ≡ true → a ≡ true
@@ -131,7 +149,8 @@ begun_third a x y p = rw p refl
 -- what `put` answers and leaves, by its tests
 module _ (h : Sending) (c : Column) where
   abbrev answer : Bool → Bool → Bool → Result Put TooTight
-  answer left begins accepted = cond left (Ok More) (cond (begins && not accepted) (Err (record {})) (Ok (placed_answer (with_column h c))))
+  answer left begins accepted =
+      cond left (Ok More) (cond (begins && not accepted) (Err (record {})) (Ok (placed_answer (with_column h c))))
 
   abbrev left_with : Bool → Bool → Bool → Sending
   left_with left begins accepted =
@@ -148,20 +167,24 @@ module _ (h : Sending) (c : Column) where
   pub left_is : leaves h.debt c ≡ true → (put_answer h c ≡ Ok More) × (after_put h c ≡ record h { debt = h.debt - 1 })
   left_is l = by_tests true (begins_group h) (accepts h.debt) l refl refl
 
-  pub plain_is : leaves h.debt c ≡ false → begins_group h ≡ false → (put_answer h c ≡ Ok (placed_answer (with_column h c))) × (after_put h c ≡ with_column h c)
+  pub plain_is : leaves h.debt c ≡ false → begins_group h ≡ false
+      → (put_answer h c ≡ Ok (placed_answer (with_column h c))) × (after_put h c ≡ with_column h c)
   plain_is l b = by_tests false false (accepts h.debt) l b refl
 
   pub group_is : leaves h.debt c ≡ false → begins_group h ≡ true → accepts h.debt ≡ true
       → (put_answer h c ≡ Ok (placed_answer (with_column h c))) × (after_put h c ≡ with_column (record h { debt = h.debt + 32 }) c)
   group_is l b a = by_tests false true true l b a
 
-  pub refused_is : leaves h.debt c ≡ false → begins_group h ≡ true → accepts h.debt ≡ false → (put_answer h c ≡ Err (record {})) × (after_put h c ≡ h)
+  pub refused_is : leaves h.debt c ≡ false → begins_group h ≡ true → accepts h.debt ≡ false
+      → (put_answer h c ≡ Err (record {})) × (after_put h c ≡ h)
   refused_is l b a = by_tests false true false l b a
 
 -- a full list of wides is all of its array
-pub all_taken : (s : State) (wides : List (List ℕ)) (count : ℕ) → length wides ≡ 40 → count ≤ 40 → s.wides ≡ take count wides → is_ready s ≡ true → s.wides ≡ wides
+pub all_taken : (s : State) (wides : List (List ℕ)) (count : ℕ) → length wides ≡ 40 → count ≤ 40 → s.wides ≡ take count wides
+    → is_ready s ≡ true → s.wides ≡ wides
 all_taken s wides count forty room are ready =
-    let all : count ≡ 40 = sym (ap length are ∙ length-take-le count wides (omega (arith, forty, room))) ∙ eqb-true (length s.wides) 40 ready in
+    let all : count ≡ 40 =
+    sym (ap length are ∙ length-take-le count wides (omega (arith, forty, room))) ∙ eqb-true (length s.wides) 40 ready in
     are ∙ take_all count wides (omega (arith, all, forty))
 
 -- a fourth block in its array
@@ -201,7 +224,8 @@ module _ (s : State) (h : Sending) (c : Column) (o : Stands s h) where
       let with : ℕ → Sending = λ d. record h { debt = d - 1 } in
       (sym tests.0, subst (Stands (record s { debt = s.debt - 1 })) (ap with debt_now ∙ sym tests.1) (debt_stands s h (s.debt - 1) o))
 
-  pub refused_answer : leaves s.debt c ≡ false → starts_group s ≡ true → accepts s.debt ≡ false → (Err (record {}) ≡ put_answer h c) × Stands s (after_put h c)
+  pub refused_answer : leaves s.debt c ≡ false → starts_group s ≡ true → accepts s.debt ≡ false
+      → (Err (record {}) ≡ put_answer h c) × Stands s (after_put h c)
   refused_answer left starts accepted =
       let tests = refused_is h c (leaves_now false left) (begins_now true starts) (ap accepts (sym debt_now) ∙ accepted) in
       (sym tests.0, subst (Stands s) (sym tests.1) o)
@@ -210,12 +234,14 @@ module _ (s : State) (h : Sending) (c : Column) (o : Stands s h) where
   module _ (mid new : State) (kept : Column) (answer : Put) (left : leaves s.debt c ≡ false) (same : kept ≡ c)
       (answers : (x : Sending) → Stands mid x → answer ≡ placed_answer (with_column x kept))
       (stands : (x : Sending) → Stands mid x → Stands new (with_column x kept)) where
-    pub group_answer : starts_group s ≡ true → accepts s.debt ≡ true → mid ≡ record s { debt = s.debt + 32 } → (Ok answer ≡ put_answer h c) × Stands new (after_put h c)
+    pub group_answer : starts_group s ≡ true → accepts s.debt ≡ true → mid ≡ record s { debt = s.debt + 32 }
+        → (Ok answer ≡ put_answer h c) × Stands new (after_put h c)
     group_answer starts accepted is =
         let tests = group_is h c (leaves_now false left) (begins_now true starts) (ap accepts (sym debt_now) ∙ accepted) in
         let with : ℕ → Sending = λ d. record h { debt = d + 32 } in
-        let held : Stands mid (record h { debt = h.debt + 32 }) =
-        subst (λ m. Stands m (record h { debt = h.debt + 32 })) (sym is) (subst (Stands (record s { debt = s.debt + 32 })) (ap with debt_now) (debt_stands s h (s.debt + 32) o)) in (
+        let raised : Stands (record s { debt = s.debt + 32 }) (record h { debt = h.debt + 32 }) =
+        subst (Stands (record s { debt = s.debt + 32 })) (ap with debt_now) (debt_stands s h (s.debt + 32) o) in
+        let held : Stands mid (record h { debt = h.debt + 32 }) = subst (λ m. Stands m (record h { debt = h.debt + 32 })) (sym is) raised in (
           ap Ok (answers (record h { debt = h.debt + 32 }) held ∙ ap (λ k. placed_answer (with_column h k)) same) ∙ sym tests.0,
           subst (Stands new) (ap (with_column (record h { debt = h.debt + 32 })) same ∙ sym tests.1) (stands (record h { debt = h.debt + 32 }) held),
         )
@@ -227,3 +253,41 @@ module _ (s : State) (h : Sending) (c : Column) (o : Stands s h) where
           ap Ok (answers h held ∙ ap (λ k. placed_answer (with_column h k)) same) ∙ sym tests.0,
           subst (Stands new) (ap (with_column h) same ∙ sym tests.1) (stands h held),
         )
+
+-- the same, by what the thinning answers and by the debt that it leaves
+module _ (s : State) (h : Sending) (c : Column) (o : Stands s h) (debt : ℕ) (next : debt ≡ cond (leaves s.debt c) (s.debt - 1) s.debt) where
+  abbrev with_debt_of : ℕ → State
+  with_debt_of d = record s { debt = d }
+
+  pub left_put : cond (leaves s.debt c) Left (Keep c) ≡ Left → (Ok More ≡ put_answer h c) × Stands (with_debt_of debt) (after_put h c)
+  left_put is =
+      let left = left_means s.debt c is in
+      let answer = left_answer s h c o left in
+      let less : debt ≡ s.debt - 1 = next ∙ ap (λ b. cond b (s.debt - 1) s.debt) left in
+      (answer.0, subst (λ d. Stands (with_debt_of d) (after_put h c)) (sym less) answer.1)
+
+  module _ (kept : Column) (keeps : cond (leaves s.debt c) Left (Keep c) ≡ Keep kept) where
+    same_debt : debt ≡ s.debt
+    same_debt = next ∙ ap (λ b. cond b (s.debt - 1) s.debt) (keep_means s.debt c kept keeps).0
+
+    pub refused_put : (after : ℕ) → starts_group s ≡ true → accepts debt ≡ false → after ≡ debt
+        → (Err (record {}) ≡ put_answer h c) × Stands (with_debt_of after) (after_put h c)
+    refused_put after starts refused is =
+        let answer = refused_answer s h c o (keep_means s.debt c kept keeps).0 starts (ap accepts (sym same_debt) ∙ refused) in
+        (answer.0, subst (λ d. Stands (with_debt_of d) (after_put h c)) (sym (is ∙ same_debt)) answer.1)
+
+    module _ (mid new : State) (answer : Put)
+        (answers : (x : Sending) → Stands mid x → answer ≡ placed_answer (with_column x kept))
+        (stands : (x : Sending) → Stands mid x → Stands new (with_column x kept)) where
+      pub group_put : (after : ℕ) → starts_group s ≡ true → accepts debt ≡ true → after ≡ debt + 32 → mid ≡ with_debt_of after
+          → (Ok answer ≡ put_answer h c) × Stands new (after_put h c)
+      group_put after starts accepted more is =
+          let keep = keep_means s.debt c kept keeps in
+          group_answer s h c o mid new kept answer keep.0 keep.1 answers stands starts
+          (ap accepts (sym same_debt) ∙ accepted)
+          (is ∙ ap with_debt_of (more ∙ ap (λ d. d + 32) same_debt))
+
+      pub plain_put : starts_group s ≡ false → mid ≡ with_debt_of debt → (Ok answer ≡ put_answer h c) × Stands new (after_put h c)
+      plain_put starts is =
+          let keep = keep_means s.debt c kept keeps in
+          plain_answer s h c o mid new kept answer keep.0 keep.1 answers stands starts (is ∙ ap with_debt_of same_debt)
