@@ -1,5 +1,6 @@
--- The blocks of columns can be joined.
-use Rattle.std.proofs.Common.{◌≡◌, ℕ, ◌%◌, ◌<◌, ◌^◌, Bool, true, false, cond, List, [], ◌∷◌, ◌++◌, length, replicate, refl, ◌∙◌, ap, arith, zero, suc, ◌-◌, ◌≤◌, lit<}
+-- The first control block among blocks of columns has a known type, so that they can be joined.
+use Rattle.std.proofs.Common.{◌≡◌, ℕ, zero, suc, ◌-◌, ◌%◌, ◌^◌, ◌<◌, ◌≤◌, Bool, true, false, cond, List, [], ◌∷◌, ◌++◌}
+use Rattle.std.proofs.Common.{length, replicate, refl, ◌∙◌, ap, arith, lit<}
 use Rattle.std.specs.Prelude.{slice_index}
 use Rattle.std.specs.Int.{from_le_bytes, w64}
 use Rattle.mac_columns.specs.declared.column.Column.{Column}
@@ -13,7 +14,8 @@ known_more : (bs : List Block) (b : Block) → first_is_known bs ≡ true → fi
 known_more [] b before here = here
 known_more (a ∷ bs) b before here = at a.control (known_more bs b) before where
   at : (control : Bool) → (first_is_known bs ≡ true → first_is_known (b ∷ []) ≡ true → first_is_known (bs ++ b ∷ []) ≡ true)
-      → cond control (is_type (a.payload % 2 ^ 8)) (first_is_known bs) ≡ true → cond control (is_type (a.payload % 2 ^ 8)) (first_is_known (bs ++ b ∷ [])) ≡ true
+      → cond control (is_type (a.payload % 2 ^ 8)) (first_is_known bs) ≡ true
+      → cond control (is_type (a.payload % 2 ^ 8)) (first_is_known (bs ++ b ∷ [])) ≡ true
   at true rest e = e
   at false rest e = rest e here
 

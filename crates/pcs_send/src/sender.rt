@@ -19,7 +19,7 @@ use scramble58::Scrambler;
 use std::marker::Model;
 use transcode257::join;
 
-/// What became of the pair in hand.
+/// How the pair in hand stands after a call.
 #[derive(Clone, Copy, Debug, PartialEq, Eq)]
 pub enum Put {
     /// It has room for more columns.
@@ -28,7 +28,11 @@ pub enum Put {
     PairReady,
 }
 
-/// A sender of columns. Contracts see it as what it holds, and say by `Stands` which columns it has
+/// A sender of columns, which go into the pair in hand in the order in which they come. Where
+/// `ready`, the pair is taken by `take_pair` before the next column.
+///
+/// A group takes the room of 32 columns. They are owed, as debt, and given back by Idle columns that
+/// are left out. Contracts see a sender as what it holds, and say by `Stands` which columns it has
 /// placed, which debt its calls of `put` have left, and how many pairs were taken.
 #[derive(Drop)]
 pub struct Sender {
@@ -64,7 +68,7 @@ impl Model for Sender {
 }
 
 impl Sender {
-    /// A sender that has placed nothing. The period is that of the groups, in pairs.
+    /// A sender that has placed nothing. The period of the groups is in pairs; the standard's is 4096.
     pub fn new(period: u16) -> Self
         requires least { 1 ≤ period }
         requires most { period ≤ 4096 }
@@ -106,8 +110,12 @@ impl Sender {
     }
 
     /// Takes the next column of the input. It is left out where it is Idle and there is debt.
-    /// Otherwise it is placed, unless it would be the first of a pair that begins with a group, and
-    /// this brought the debt above 128.
+    /// Otherwise it is placed. The first column of a pair that begins with a group brings 32 columns
+    /// of debt.
+    ///
+    /// # Errors
+    ///
+    /// `TooTight` where this would bring the debt above 128 columns. Nothing is changed then.
     pub fn put(&mut self, column: Column) -> Result<Put, TooTight>
         requires { is_ready self.old ≡ false }
         ensures answer { (h : Sending) → Stands self.old h → result ≡ put_answer h column }
@@ -126,7 +134,8 @@ impl Sender {
         }
     }
 
-    /// Places an Idle column that is no part of the input, whatever the debt.
+    /// Places an Idle column that is no part of the input, to fill a pair. The debt stays as it is,
+    /// and a group that comes with the column adds none.
     pub fn idle(&mut self) -> Put
         requires { is_ready self.old ≡ false }
         ensures answer { (h : Sending) → Stands self.old h → result ≡ placed_answer (with_column h Idle) }
@@ -136,7 +145,8 @@ impl Sender {
         self.place(Column::Idle)
     }
 
-    /// The beats of the pair that is ready. The next pair is then in hand.
+    /// The beats of the pair that is ready, groups among them, with the parity of both codewords.
+    /// The next pair is then in hand.
     pub fn take_pair(&mut self) -> PairOctets
         requires { is_ready self.old ≡ true }
         ensures pair { (h : Sending) → Stands self.old h → result ≡ pair_beats h.period h.placed h.taken }
