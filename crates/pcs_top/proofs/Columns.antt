@@ -21,13 +21,13 @@ column_text-one : (column : Column) → column_text (column ∷ []) ≡ block_li
 unfolding column_text
 column_text-one column = append-nil (block_line (block_of column))
 
-at-some : (xs : List Column) (n : ℕ) (x : Column) → Some x ≡ slice_get xs n → take (suc n) xs ≡ take n xs ++ x ∷ []
+pub at-some : (xs : List Column) (n : ℕ) (x : Column) → Some x ≡ slice_get xs n → take (suc n) xs ≡ take n xs ++ x ∷ []
 at-some [] zero x e = absurd (cc)
 at-some [] (suc n) x e = absurd (cc)
 at-some (y ∷ ys) zero x e = cc
 at-some (y ∷ ys) (suc n) x e = ap (λ ts. y ∷ ts) (at-some ys n x e)
 
-at-none : (xs : List Column) (n : ℕ) → None ≡ slice_get xs n → take n xs ≡ xs
+pub at-none : (xs : List Column) (n : ℕ) → None ≡ slice_get xs n → take n xs ≡ xs
 at-none [] zero e = refl
 at-none [] (suc n) e = refl
 at-none (y ∷ ys) zero e = absurd (cc)
@@ -43,7 +43,8 @@ no-columns : (columns : List Column) (text : List ℕ) → text ++ column_text (
 unfolding column_text
 no-columns columns text = append-nil text
 
-pub putting-start : (frame : List ℕ) (gap : ℕ) (left : List Column) (before now : Option (List ℕ)) (old new : List ℕ) → Stands left (sending frame gap)
+pub putting-start : (frame : List ℕ) (gap : ℕ) (left : List Column) (before now : Option (List ℕ)) (old new : List ℕ)
+    → Stands left (sending frame gap)
     → Stays before old now new → Putting frame gap left before now old new
 putting-start frame gap left before now old new stands wrote = record {
   given = 0;
@@ -52,9 +53,11 @@ putting-start frame gap left before now old new stands wrote = record {
 }
 
 -- one column more
-pub putting-column : (frame : List ℕ) (gap : ℕ) (left rest : List Column) (before mid now : Option (List ℕ)) (old pending new octets : List ℕ) (column : Column) (block : Block)
+pub putting-column : (frame : List ℕ) (gap : ℕ) (left rest : List Column) (before mid now : Option (List ℕ))
+    (old pending new octets : List ℕ) (column : Column) (block : Block)
     → Putting frame gap left before mid old pending
-    → ((h : Sending) → Stands left h → Some column ≡ slice_get (columns_of h.frame h.gap) h.given) → ((h : Sending) → Stands left h → Stands rest (sent h (Some column)))
+    → ((h : Sending) → Stands left h → Some column ≡ slice_get (columns_of h.frame h.gap) h.given)
+    → ((h : Sending) → Stands left h → Stands rest (sent h (Some column)))
     → block ≡ block_of column → octets ≡ block_line block
     → Puts mid pending octets now new
     → Putting frame gap rest before now old new
@@ -71,14 +74,16 @@ putting-column frame gap left rest before mid now old pending new octets column 
 }
 
 -- all columns are given
-pub putting-end : (frame : List ℕ) (gap : ℕ) (left : List Column) (before now : Option (List ℕ)) (old new : List ℕ) → Putting frame gap left before now old new
+pub putting-end : (frame : List ℕ) (gap : ℕ) (left : List Column) (before now : Option (List ℕ)) (old new : List ℕ)
+    → Putting frame gap left before now old new
     → ((h : Sending) → Stands left h → None ≡ slice_get (columns_of h.frame h.gap) h.given)
     → Puts before old (column_text (columns_of frame gap)) now new
 putting-end frame gap left before now old new p at start text w =
     subst (λ cs. Wrote start now (text ++ column_text cs) new) (at-none (columns_of frame gap) p.given (at (record { frame = frame; gap = gap; given = p.given }) p.stands)) (p.wrote start text w)
 
 -- a write failed
-pub putting-failed : (frame : List ℕ) (gap : ℕ) (left : List Column) (before mid now : Option (List ℕ)) (old pending : List ℕ) → Putting frame gap left before mid old pending
+pub putting-failed : (frame : List ℕ) (gap : ℕ) (left : List Column) (before mid now : Option (List ℕ)) (old pending : List ℕ)
+    → Putting frame gap left before mid old pending
     → BreaksOffBefore mid pending now
     → BreaksOff before old (column_text (columns_of frame gap)) now
 putting-failed frame gap left before mid now old pending p failed start text w =

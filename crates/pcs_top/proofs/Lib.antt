@@ -5,3 +5,13 @@ pub mod Copying
 pub mod Rows
 pub mod Completeness
 pub mod Undoing
+pub mod OptionWords
+pub mod OptionRanges
+pub mod WordRows
+pub mod PuttingMore
+pub mod Idling
+pub mod Capturing
+pub mod PuttingColumns
+pub mod PuttingFrames
+pub mod Framing
+pub mod Encoding

@@ -20,7 +20,8 @@ pub no-lines : block_text [] ≡ []
 unfolding block_text
 no-lines = refl
 
-pub one-frame-line : (lines : List FrameLine) (line : FrameLine) → block_text (lines ++ line ∷ []) ≡ block_text lines ++ column_text (columns_of line.frame line.gap)
+pub one-frame-line : (lines : List FrameLine) (line : FrameLine)
+    → block_text (lines ++ line ∷ []) ≡ block_text lines ++ column_text (columns_of line.frame line.gap)
 unfolding block_text
 one-frame-line lines line =
     flat_map-append (λ (l : FrameLine). column_text (columns_of l.frame l.gap)) lines (line ∷ [])
@@ -74,7 +75,8 @@ has-taken old new lines line column taken is stands =
     (subst (λ now. Stands new (now ∷ past_columns lines)) is (stands (past_columns lines) taken))
 
 -- its frame is the text that the line adds
-pub whole-frame : (old new : Gathering) (lines : List BlockLine) (line : BlockLine) (column : Column) (frame : List ℕ) → HasTaken old lines → column ≡ line_column line
+pub whole-frame : (old new : Gathering) (lines : List BlockLine) (line : BlockLine) (column : Column) (frame : List ℕ) → HasTaken old lines
+    → column ≡ line_column line
     → ((past : List Column) → Stands old past → Stands new (column ∷ past))
     → ((past : List Column) → Stands new past → ended_frame past ≡ Some frame)
     → unblock_text (lines ++ line ∷ []) ≡ unblock_text lines ++ (encode_lower frame ++ 10 ∷ [])
@@ -83,7 +85,8 @@ whole-frame old new lines line column frame taken is stands has =
     frame-ends lines line frame (subst (λ now. ended_frame (now ∷ past) ≡ Some frame) is (has (column ∷ past) (stands past taken)))
 
 -- a line that ends no frame adds no text
-pub other-line : (old : Gathering) (lines : List BlockLine) (line : BlockLine) (column : Column) (answer : Gathered) → HasTaken old lines → column ≡ line_column line
+pub other-line : (old : Gathering) (lines : List BlockLine) (line : BlockLine) (column : Column) (answer : Gathered) → HasTaken old lines
+    → column ≡ line_column line
     → ((past : List Column) → Stands old past → answer ≡ answer_of (outcome (open_frame past) column))
     → (answer ≡ Whole → ⊥)
     → unblock_text (lines ++ line ∷ []) ≡ unblock_text lines

@@ -41,7 +41,8 @@ text-read control digits frame rest sixteen decoded =
     ∙ digits-say digits frame rest control sixteen decoded
 
 -- the line of a column is read back
-line-read : (column : Column) (rest : List ℕ) → HasOctets column → block_line_at (block_line (block_of column) ++ rest) ≡ Line (written_line (block_of column)) rest
+line-read : (column : Column) (rest : List ℕ) → HasOctets column
+    → block_line_at (block_line (block_of column) ++ rest) ≡ Line (written_line (block_of column)) rest
 unfolding block_of
 line-read column rest has =
     let octets = payload_octets column in
@@ -51,7 +52,8 @@ line-read column rest has =
     ap (λ os. block_line_at (((if is_control column then codes "10 " else codes "01 ") ++ encode_lower os ++ 10 ∷ []) ++ rest)) same
     ∙ text-read (is_control column) (encode_lower octets) octets rest sixteen (decode_of-encode_lower octets eight.1)
 
-lines-read : (columns : List Column) → AllByRecursion HasOctets columns → AreLines block_line_at (column_text columns) (map (λ column. written_line (block_of column)) columns)
+lines-read : (columns : List Column) → AllByRecursion HasOctets columns
+    → AreLines block_line_at (column_text columns) (map (λ column. written_line (block_of column)) columns)
 unfolding column_text
 lines-read [] all = refl
 lines-read (column ∷ columns) all = (column_text columns, line-read column (column_text columns) all.0, lines-read columns all.1)
@@ -76,7 +78,8 @@ sent-octets [] all = tt
 sent-octets (line ∷ lines) all =
     all-append (columns_of line.frame line.gap) (sent_columns lines) (columns-octets line.frame line.gap all.0.octets) (sent-octets lines all.1)
 
-columns-read : (columns : List Column) → map line_column (map (λ column. written_line (block_of column)) columns) ≡ map column_of (map block_of columns)
+columns-read : (columns : List Column)
+    → map line_column (map (λ column. written_line (block_of column)) columns) ≡ map column_of (map block_of columns)
 columns-read [] = refl
 columns-read (column ∷ columns) = ap (λ cs. column_of (block_of column) ∷ cs) (columns-read columns)
 

@@ -8,3 +8,6 @@ pub mod LineCommand
 pub mod Unblocking
 pub mod Top
 pub mod Laws
+pub mod Captures
+pub mod Encoding
+pub mod Sending

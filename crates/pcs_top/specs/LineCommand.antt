@@ -7,7 +7,7 @@ use Rattle.pcs_io.specs.declared.fault.Kind.{Kind}
 use Rattle.pcs_io.specs.declared.fault.Kind.TheVariants.{NoEnd}
 use Rattle.pcs_top.specs.Seen.{Seen, Took, TookAll, Written, Untouched, ReadFailed, WriteFailed}
 use Rattle.pcs_top.specs.declared.status.Status.{Status}
-use Rattle.pcs_top.specs.declared.status.Status.TheVariants.{Done, Usage, ReadFault, WriteFault, NoMemory, BadLine, TooLong, NotesFault}
+use Rattle.pcs_top.specs.declared.status.Status.TheVariants.{Done, Usage, ReadFault, WriteFault, NoMemory, BadLine, TooTight, TooLong, NotesFault}
 
 -- the line behind these lines is refused: at an octet that can't stand there, or at the end of the input
 abbrev pub IsRefused : {X : Type 0} → (List ℕ → LineAt X) → Seen → List ℕ → List X → Kind → Type 0
@@ -23,6 +23,7 @@ Converted {X} line_at text_of seen ReadFault = (octets : List ℕ) × (lines : L
 Converted {X} line_at text_of seen WriteFault = (octets : List ℕ) × (lines : List X) × (rest : List ℕ) × WriteFailed seen × Took seen octets × Begins line_at octets lines rest × AppendsFront seen.held_before seen.held_after (text_of lines)
 Converted {X} line_at text_of seen NoMemory = Untouched seen
 Converted {X} line_at text_of seen (BadLine number kind) = (octets : List ℕ) × (lines : List X) × (number ≡ length lines + 1) × IsRefused line_at seen octets lines kind × Written seen (text_of lines)
+Converted {X} line_at text_of seen (TooTight frame) = ⊥
 Converted {X} line_at text_of seen TooLong = (octets : List ℕ) × (lines : List X) × Took seen octets × (length octets ≡ 2 ^ 40) × EndOpen line_at octets lines × Written seen (text_of lines)
 Converted {X} line_at text_of seen (NotesFault instead) = ⊥
 

@@ -7,7 +7,7 @@ use Rattle.pcs_io.specs.declared.fault.Kind.{Kind}
 use Rattle.pcs_io.specs.declared.fault.Kind.TheVariants.{NoGap, BadGap, BadHex, OddHex, LongFrame, NoEnd, BadSync, BadWidth}
 use Rattle.pcs_top.specs.Statuses.{number_of}
 use Rattle.pcs_top.specs.declared.status.Status.{Status}
-use Rattle.pcs_top.specs.declared.status.Status.TheVariants.{Done, Usage, ReadFault, WriteFault, NoMemory, BadLine, TooLong, NotesFault}
+use Rattle.pcs_top.specs.declared.status.Status.TheVariants.{Done, Usage, ReadFault, WriteFault, NoMemory, BadLine, TooTight, TooLong, NotesFault}
 
 abbrev pub kind_text : Kind → List ℕ
 kind_text NoGap = codes "no gap"
@@ -27,6 +27,7 @@ note_text ReadFault = codes "pcs: read fault\n"
 note_text WriteFault = codes "pcs: write fault\n"
 note_text NoMemory = codes "pcs: no memory\n"
 note_text (BadLine number kind) = codes "pcs: line " ++ decimal number ++ codes ": " ++ kind_text kind ++ codes "\n"
+note_text (TooTight frame) = codes "pcs: too tight at frame " ++ decimal frame ++ codes "\n"
 note_text TooLong = codes "pcs: too long\n"
 note_text (NotesFault instead) = []
 

@@ -3,7 +3,7 @@ use Rattle.std.specs.Prelude.{ℕ}
 use Rattle.pcs_io.specs.declared.fault.InFault.{InFault}
 use Rattle.pcs_io.specs.declared.fault.InFault.TheVariants as fault
 use Rattle.pcs_top.specs.declared.status.Status.{Status}
-use Rattle.pcs_top.specs.declared.status.Status.TheVariants.{Done, Usage, ReadFault, WriteFault, NoMemory, BadLine, TooLong, NotesFault}
+use Rattle.pcs_top.specs.declared.status.Status.TheVariants.{Done, Usage, ReadFault, WriteFault, NoMemory, BadLine, TooTight, TooLong, NotesFault}
 
 -- the exit status
 abbrev pub number_of : Status → ℕ
@@ -13,6 +13,7 @@ number_of ReadFault = 3
 number_of WriteFault = 4
 number_of NoMemory = 5
 number_of (BadLine number kind) = 6
+number_of (TooTight frame) = 8
 number_of TooLong = 11
 number_of (NotesFault instead) = 12
 

@@ -1,5 +1,6 @@
 -- The answers of the top call.
 use Rattle.std.specs.Prelude.{◌≡◌, ◌⊎◌, ℕ, ◌^◌, ◌<◌, List, length, Option, Some, None}
+use Rattle.rate_match.specs.Kept.{HasLegalGaps}
 use Rattle.pcs_io.specs.Faults.{Rose}
 use Rattle.pcs_io.specs.Grammars.{AreLines}
 use Rattle.pcs_io.specs.FrameLines.{FrameLine, frame_line_at}
@@ -9,6 +10,8 @@ use Rattle.pcs_top.specs.Seen.{Seen, Untouched, ReadFailed, WriteFailed}
 use Rattle.pcs_top.specs.Notes.{Heard, Noted}
 use Rattle.pcs_top.specs.Texts.{block_text, unblock_text}
 use Rattle.pcs_top.specs.LineCommand.{Converted}
+use Rattle.pcs_top.specs.Captures.{columns_of_lines}
+use Rattle.pcs_top.specs.Encoding.{Encoded}
 use Rattle.pcs_top.specs.declared.command.Command.{Command}
 use Rattle.pcs_top.specs.declared.command.Command.TheVariants as command
 use Rattle.pcs_top.specs.declared.status.Cause.TheVariants.{Words}
@@ -20,16 +23,19 @@ abbrev pub Answers : Option Command → Seen → Status → Type 0
 Answers None seen outcome = (outcome ≡ Usage Words) × Untouched seen
 Answers (Some command.Blocks) seen outcome = Converted frame_line_at block_text seen outcome
 Answers (Some command.Unblock) seen outcome = Converted block_line_at unblock_text seen outcome
+Answers (Some (command.Encode options)) seen outcome = Encoded options seen outcome
 
 -- the outcome of the command, and the status with its line on the notes
 abbrev pub Runs : Option Command → Seen → Heard → Status → Type 0
 Runs words seen heard status = (outcome : Status) × Answers words seen outcome × Noted outcome heard status
 
--- the input is in the grammar of the command
+-- the input is in the grammar of the command, and for `encode` its columns have legal gaps
 abbrev pub InGrammar : Option Command → List ℕ → Type 0
 InGrammar None octets = ⊥
 InGrammar (Some command.Blocks) octets = (lines : List FrameLine) × AreLines frame_line_at octets lines
 InGrammar (Some command.Unblock) octets = (lines : List BlockLine) × AreLines block_line_at octets lines
+InGrammar (Some (command.Encode options)) octets =
+    (lines : List FrameLine) × AreLines frame_line_at octets lines × HasLegalGaps options.period (columns_of_lines lines)
 
 -- no read and no write failed
 pub record NothingFailed (seen : Seen) (heard : Heard) : Type 0 where

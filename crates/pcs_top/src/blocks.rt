@@ -33,8 +33,8 @@ pub fn blocks<R: Source, W: Sink>(alloc: Global, source: &mut R, sink: &mut W) -
     }
 }
 
-// All the memory that the command needs.
-fn open(alloc: Global) -> Result<(Lines, Output), AllocError>
+/// All the memory that a command on frame lines needs.
+pub(crate) fn open(alloc: Global) -> Result<(Lines, Output), AllocError>
     ensures { IfOk result (λ all. Stands frame_line_at all.0 (opened (2 ^ 40)) × (all.1 ≡ [])) }
 {
     Ok((Lines::open(alloc, LIMIT)?, Output::open(alloc)?))

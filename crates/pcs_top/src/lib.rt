@@ -3,16 +3,17 @@
 
 mod blocks;
 mod command;
+mod encode;
 mod laws;
 mod notes;
+mod options;
 mod output;
 mod status;
-#[cfg(test)]
-mod tests;
 mod top;
 mod unblock;
 
 pub use laws::unblock_undoes_blocks;
+pub use options::EncodeOptions;
 pub use status::{Cause, Status};
 pub use top::run;
 

@@ -41,6 +41,11 @@ fn note_text(status: &Status) -> ArrayString<64>
             put(&mut text, kind_text(*kind));
             put(&mut text, "\n");
         }
+        Status::TooTight { frame } => {
+            put(&mut text, "pcs: too tight at frame ");
+            put(&mut text, Buffer::new().format(*frame));
+            put(&mut text, "\n");
+        }
         Status::TooLong => put(&mut text, "pcs: too long\n"),
     }
     text

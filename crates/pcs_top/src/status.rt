@@ -20,6 +20,8 @@ pub enum Status {
     NoMemory,
     /// The line of this number, counted from 1, is refused.
     BadLine { number: u64, kind: Kind },
+    /// The frame of this number, counted from 1, leaves too little room for the groups.
+    TooTight { frame: u64 },
     /// The input has as many octets as may be taken, or more.
     TooLong,
     /// The line on the notes couldn't be written whole. The number is that of the status that
@@ -39,6 +41,7 @@ impl Status {
             Status::WriteFault => 4,
             Status::NoMemory => 5,
             Status::BadLine { .. } => 6,
+            Status::TooTight { .. } => 8,
             Status::TooLong => 11,
             Status::NotesFault { .. } => 12,
         }
