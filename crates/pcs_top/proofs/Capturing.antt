@@ -1,5 +1,5 @@
 -- The capture of columns, pair by pair.
-use Rattle.std.proofs.Common.{◌≡◌, ℕ, zero, suc, ◌+◌, ◌-◌, ◌<◌, ◌≤◌, List, ◌∷◌, ◌++◌, length, flat_map, Option, sym, ◌∙◌, ap, ap₂, subst, arith, inl, inr, append_assoc, append-nil, length-append}
+use Rattle.std.proofs.Common.{refl, ◌≡◌, ℕ, zero, suc, ◌+◌, ◌-◌, ◌<◌, ◌≤◌, List, ◌∷◌, ◌++◌, length, flat_map, Option, sym, ◌∙◌, ap, ap₂, subst, arith, inl, inr, append_assoc, append-nil, length-append}
 use Rattle.std.specs.List.{range_with_len}
 use Rattle.std.proofs.Common.{true}
 use Rattle.std.proofs.lemmas.Bool.{cases_lt, eq-eqb}
@@ -175,20 +175,22 @@ module _ (old : State) (p : ℕ) (cs : List Column) (owed : ℕ) (start held : O
     pub filled-stands : Stands mid filled
     filled-stands = fills o.history o.stands
 
-    module _ (now : Option (List ℕ)) (beats : List (List ℕ)) (gives : (h : Sending) → Stands mid h → beats ≡ pair_beats h.period h.placed h.taken) where
+    module _ (now : Option (List ℕ)) where
       pub idle-pair-sent : (new : State) (after : List ℕ) → ((h : Sending) → Stands mid h → Stands new (after_take h))
-          → Puts held pending (flat beats) now after
+          → ((h : Sending) → Stands mid h → Puts held pending (flat (pair_beats h.period h.placed h.taken)) now after)
           → HasSent new p (with_pairs p cs 1) owed start now after
       idle-pair-sent new after takes puts =
-          pair-sent new filled p cs (idles (columns_before p (whole_pairs p (length cs) + 1) - length cs)) owed start held now pending after beats
-          o.debt o.period filled-placed o.from o.low filled-size o.wrote (gives filled filled-stands) (takes filled filled-stands) puts
+          pair-sent new filled p cs (idles (columns_before p (whole_pairs p (length cs) + 1) - length cs)) owed start held now pending after
+          (pair_beats filled.period filled.placed filled.taken) o.debt o.period filled-placed o.from o.low filled-size o.wrote refl
+          (takes filled filled-stands) (puts filled filled-stands)
 
-      pub idle-pair-failed : BreaksOff held pending (flat beats) now → AppendsFront start now (capture p (with_pairs p cs 1))
+      pub idle-pair-failed : ((h : Sending) → Stands mid h → BreaksOff held pending (flat (pair_beats h.period h.placed h.taken)) now)
+          → AppendsFront start now (capture p (with_pairs p cs 1))
       idle-pair-failed failed =
           subst (AppendsFront start now)
-          (ap (λ b. capture p cs ++ flat b) (gives filled filled-stands ∙ ap₂ (λ q xs. pair_beats q xs o.history.taken) o.period filled-placed)
+          (ap (λ b. capture p cs ++ flat b) (ap₂ (λ q xs. pair_beats q xs o.history.taken) o.period filled-placed)
           ∙ sym (capture-more p cs (idles (columns_before p (whole_pairs p (length cs) + 1) - length cs)) o.history.taken o.from o.low filled-size))
-          (failed start (capture p cs) o.wrote)
+          (failed filled filled-stands start (capture p cs) o.wrote)
 
 -- more pairs of idles go on with the first ones
 with_pairs-front : (p : ℕ) (cs : List Column) (m n : ℕ) → AreWhole p cs → m ≤ n

@@ -136,22 +136,26 @@ module _ (s : State) (o : EncodeOptions) (cs : List Column) (start held : Option
 
   -- the pair in hand is full, and its beats are put
   module _ (mid : State) (is : leaves h.debt c ≡ false) (few : debt p (c ∷ reverse cs) ≤ 128) (full : is_full kept_one ≡ true) (stands : Stands mid kept_one)
-      (now : Option (List ℕ)) (beats : List (List ℕ)) (gives : (x : Sending) → Stands mid x → beats ≡ pair_beats x.period x.placed x.taken) where
-    filled : (new : State) (after : List ℕ) → ((x : Sending) → Stands mid x → Stands new (after_take x)) → Puts held pending (flat beats) now after
+      (now : Option (List ℕ)) where
+    filled : (new : State) (after : List ℕ) → ((x : Sending) → Stands mid x → Stands new (after_take x))
+        → ((x : Sending) → Stands mid x → Puts held pending (flat (pair_beats x.period x.placed x.taken)) now after)
         → HasPut new o (cs ++ c ∷ []) start now after
     filled new after takes puts =
         put-one new now after (subst (λ xs. HasSent new p xs (debt p (c ∷ reverse cs)) start now after) (sym (columns-are is))
-        (pair-sent new kept_one p (begun_columns p o.lead cs) (c ∷ []) (debt p (c ∷ reverse cs)) start held now pending after beats refl put.sent.period
-        (kept-placed is ∙ columns-are is) put.sent.from put.sent.low (full-size is full) put.sent.wrote (gives kept_one stands) (takes kept_one stands) puts)) few
+        (pair-sent new kept_one p (begun_columns p o.lead cs) (c ∷ []) (debt p (c ∷ reverse cs)) start held now pending after
+        (pair_beats kept_one.period kept_one.placed kept_one.taken) refl put.sent.period
+        (kept-placed is ∙ columns-are is) put.sent.from put.sent.low (full-size is full) put.sent.wrote refl
+        (takes kept_one stands) (puts kept_one stands))) few
 
-    broken : BreaksOff held pending (flat beats) now → AppendsFront start now (begun_octets o (cs ++ c ∷ []))
+    broken : ((x : Sending) → Stands mid x → BreaksOff held pending (flat (pair_beats x.period x.placed x.taken)) now)
+        → AppendsFront start now (begun_octets o (cs ++ c ∷ []))
     broken failed =
         subst (AppendsFront start now)
         (ap (λ b. capture p (begun_columns p o.lead cs) ++ flat b)
-        (gives kept_one stands ∙ ap₂ (λ q xs. pair_beats q xs h.taken) put.sent.period (kept-placed is ∙ columns-are is))
+        (ap₂ (λ q xs. pair_beats q xs h.taken) put.sent.period (kept-placed is ∙ columns-are is))
         ∙ sym (capture-more p (begun_columns p o.lead cs) (c ∷ []) h.taken put.sent.from put.sent.low (full-size is full))
         ∙ ap (capture p) (sym (columns-are is)))
-        (failed start (capture p (begun_columns p o.lead cs)) put.sent.wrote)
+        (failed kept_one stands start (capture p (begun_columns p o.lead cs)) put.sent.wrote)
 
   -- the answer of `put`, by its tests
   data Case : Type 0 where
@@ -203,24 +207,25 @@ module _ (s : State) (o : EncodeOptions) (cs : List Column) (start held : Option
   ]
 
   module _ (mid : State) (answer : Ok PairReady ≡ put_answer h c) (stands : Stands mid (after_put h c))
-      (now : Option (List ℕ)) (beats : List (List ℕ)) (gives : (x : Sending) → Stands mid x → beats ≡ pair_beats x.period x.placed x.taken) where
+      (now : Option (List ℕ)) where
     is-full : (b : Bool) → ◌≡◌ {A = Result Put TooTight} (Ok PairReady) (Ok (cond b PairReady More)) → b ≡ true
     is-full true e = refl
     is-full false e = absurd (cc)
 
     pub full-put : (new : State) (after : List ℕ) → ((x : Sending) → Stands mid x → Stands new (after_take x))
-        → Puts held pending (flat beats) now after
+        → ((x : Sending) → Stands mid x → Puts held pending (flat (pair_beats x.period x.placed x.taken)) now after)
         → HasPut new o (cs ++ c ∷ []) start now after
     full-put new after takes puts = elim cases [
       | goes is a e ↦ absurd (let never = answer ∙ a in cc)
-      | stays is few a e ↦ filled mid is few (is-full (is_full kept_one) (answer ∙ a)) (subst (Stands mid) e stands) now beats gives new after takes puts
+      | stays is few a e ↦ filled mid is few (is-full (is_full kept_one) (answer ∙ a)) (subst (Stands mid) e stands) now new after takes puts
       | refused over a ↦ absurd (let never = answer ∙ a in cc)
     ]
 
-    pub failed-put : BreaksOff held pending (flat beats) now → HasLegalGaps p (cs ++ c ∷ []) × AppendsFront start now (begun_octets o (cs ++ c ∷ []))
+    pub failed-put : ((x : Sending) → Stands mid x → BreaksOff held pending (flat (pair_beats x.period x.placed x.taken)) now)
+        → HasLegalGaps p (cs ++ c ∷ []) × AppendsFront start now (begun_octets o (cs ++ c ∷ []))
     failed-put failed = elim cases [
       | goes is a e ↦ absurd (let never = answer ∙ a in cc)
       | stays is few a e ↦
-          (legal_gaps-push p cs c put.legal few, broken mid is few (is-full (is_full kept_one) (answer ∙ a)) (subst (Stands mid) e stands) now beats gives failed)
+          (legal_gaps-push p cs c put.legal few, broken mid is few (is-full (is_full kept_one) (answer ∙ a)) (subst (Stands mid) e stands) now failed)
       | refused over a ↦ absurd (let never = answer ∙ a in cc)
     ]

@@ -8,8 +8,8 @@ ghost use Rattle.pcs_io.specs.Faults.{HasCause, Rose};
 ghost use Rattle.pcs_io.specs.Octets.{AppendsFront};
 ghost use Rattle.pcs_io.specs.FrameLines.{frame_line_at};
 ghost use Rattle.pcs_io.specs.Histories.{Stands as ReaderStands, opened};
-ghost use Rattle.pcs_send.specs.Transmission.{idles, begun_columns, carried};
-ghost use Rattle.pcs_send.specs.Histories.{Sending, sending, end_column};
+ghost use Rattle.pcs_send.specs.Transmission.{idles, begun_columns, carried, pair_beats};
+ghost use Rattle.pcs_send.specs.Histories.{Sending, sending, end_column, after_take};
 ghost use Rattle.pcs_send.specs.Holding.{Stands, is_ready};
 ghost use Rattle.pcs_top.specs.declared.options.EncodeOptions.{EncodeOptions};
 ghost use Rattle.pcs_top.specs.declared.encode.Halt.TheVariants as Halt;
@@ -63,6 +63,22 @@ fn put_beats<W: Sink>(output: &mut Output, sink: &mut W, pair: &PairOctets) -> R
     Ok(())
 }
 
+// Puts the beats of the pair that is full. Not inlined, so that its array is no local of a loop over
+// columns.
+#[inline(never)]
+fn put_pair<W: Sink>(sender: &mut Sender, output: &mut Output, sink: &mut W) -> Result<(), Failed>
+    requires { is_ready sender.old ≡ true }
+    ensures waits { is_ready sender.new ≡ false }
+    ensures stands { (h : Sending) → Stands sender.old h → Stands sender.new (after_take h) }
+    ensures ok { OnOk result ((h : Sending) → Stands sender.old h
+        → Puts (W.held sink.old) output.old (flat (pair_beats h.period h.placed h.taken)) (W.held sink.new) output.new) }
+    ensures err { OnErr result ((h : Sending) → Stands sender.old h
+        → BreaksOff (W.held sink.old) output.old (flat (pair_beats h.period h.placed h.taken)) (W.held sink.new)) }
+    ensures cause { HasCause (W.faults sink.old) (W.faults sink.new) result }
+{
+    put_beats(output, sink, &sender.take_pair())
+}
+
 // Fills the pair in hand with idles.
 fn fill(sender: &mut Sender)
     ensures { (h : Sending) → Stands sender.old h
@@ -90,7 +106,7 @@ fn put_idle_pair<W: Sink>(
 {
     fill(sender);
     if sender.ready() {
-        put_beats(output, sink, &sender.take_pair())?;
+        put_pair(sender, output, sink)?;
     }
     Ok(())
 }
@@ -136,7 +152,7 @@ fn put_column<W: Sink>(
 {
     match sender.put(column)? {
         Put::More => {}
-        Put::PairReady => put_beats(output, sink, &sender.take_pair())?,
+        Put::PairReady => put_pair(sender, output, sink)?,
     }
     Ok(())
 }
