@@ -1,6 +1,6 @@
 -- Octets of which no field is wrong.
 use Rattle.std.proofs.Common.{◌≡◌, ℕ, ◌≤◌, List, None, take, replicate, refl, ap, Ok}
-use Rattle.std.specs.Prelude.{bytes_eq, codes, slice_range, slice_index, nat_le, ◌==◌, ◌&&◌, Bool, true}
+use Rattle.std.specs.Prelude.{bytes_eq, codes, slice_range, slice_index, ◌&&◌, Bool, true}
 use Rattle.std.proofs.lemmas.Bool.{le-leb, eq-eqb}
 use Rattle.pcs_io.specs.Headers.{header_of, header_or, period_of, wrong_place, first_wrong, fields}
 

@@ -1,5 +1,5 @@
 -- The header of a capture: sixteen octets.
-use Rattle.std.specs.Prelude.{ℕ, ◌+◌, ◌*◌, ◌/◌, ◌%◌, Bool, true, false, ◌&&◌, ◌==◌, nat_le, bytes_eq, if◌then◌else◌, List, [], ◌∷◌, ◌++◌, take, slice_range}
+use Rattle.std.specs.Prelude.{ℕ, ◌+◌, ◌*◌, ◌/◌, ◌%◌, Bool, false, ◌&&◌, ◌==◌, nat_le, bytes_eq, if◌then◌else◌, List, [], ◌∷◌, ◌++◌, take, slice_range}
 use Rattle.std.specs.Prelude.{codes, replicate, slice_index, Result, Ok, Err, Option, Some, None}
 use Rattle.pcs_io.specs.declared.header.Header.{Header}
 use Rattle.pcs_io.specs.declared.header.BadHeader.{BadHeader}

@@ -1,5 +1,5 @@
 -- An input in the grammar is turned into its text.
-use Rattle.std.proofs.Common.{◌≡◌, ℕ, ◌^◌, ◌<◌, ◌⊎◌, inl, inr, List, [], ◌++◌, length, Option, Some, None, IfSome, sym, ◌∙◌, ap, ap₂, subst, refl, append-nil, append_assoc, length-append, arith, ◌∷◌}
+use Rattle.std.proofs.Common.{◌≡◌, ℕ, ◌^◌, ◌<◌, ◌⊎◌, inl, inr, List, [], ◌++◌, length, Option, Some, None, IfSome, sym, ◌∙◌, ap, subst, refl, append-nil, append_assoc, length-append, arith, ◌∷◌}
 use Rattle.std.proofs.lemmas.List.{reverse-append}
 use Rattle.mac_columns.specs.Columns.{columns_of}
 use Rattle.mac_columns.specs.declared.column.Column.{Column}
@@ -12,7 +12,7 @@ use Rattle.pcs_io.specs.FrameLines.{frame_line_at}
 use Rattle.pcs_io.specs.FrameGrammar.{frame_grammar}
 use Rattle.pcs_io.specs.BlockLines.{block_line_at}
 use Rattle.pcs_io.specs.BlockGrammar.{block_grammar}
-use Rattle.pcs_io.specs.Grammars.{LineAt, Line, Open, IsGrammar, Begins, AreLines, AreRefused, AreCut}
+use Rattle.pcs_io.specs.Grammars.{LineAt, IsGrammar, Begins, AreLines, AreRefused, AreCut}
 use Rattle.pcs_io.specs.declared.fault.Kind.{Kind}
 use Rattle.pcs_io.proofs.LineLaws.{begins-more, lines-behind, refused-more, refused-lines, open-lines}
 use Rattle.pcs_top.specs.Seen.{Seen, TookAll, ReadFailed, WriteFailed}
@@ -82,21 +82,6 @@ module _ {X : Type 0} (line_at : List ℕ → LineAt X) (grammar : IsGrammar lin
       absurd (none-long octets rest c.0 (front seen.left_before seen.left_after octets rest c.0 b a c.2) short c.3)
   converted text_of seen octets rest lines (NotesFault instead) b a whole short reads writes c = absurd c
 
--- whole lines begin with the lines in front
-module _ {X : Type 0} (line_at : List ℕ → LineAt X) (grammar : IsGrammar line_at) where
-  same-line : (a : LineAt X) (first second : X) (rest other : List ℕ) → a ≡ Line first rest → a ≡ Line second other
-      → (first ≡ second) × (rest ≡ other)
-  same-line a first second rest other p q = (cc, cc)
-
-  begins-whole : (octets : List ℕ) (lines : List X) (rest : List ℕ) (all : List X) → Begins line_at octets lines rest
-      → AreLines line_at octets all → (others : List X) × (all ≡ lines ++ others)
-  begins-whole octets [] rest all begins whole = (all, refl)
-  begins-whole octets (line ∷ lines) rest [] begins whole = absurd (let e : Open ≡ Line line begins.0 = sym grammar.nothing ∙ ap line_at (sym whole) ∙ begins.1 in cc)
-  begins-whole octets (line ∷ lines) rest (first ∷ all) begins whole =
-      let same = same-line (line_at octets) first line whole.0 begins.0 whole.1 begins.1 in
-      let after = begins-whole begins.0 lines rest all begins.2 (subst (λ os. AreLines line_at os all) same.1 whole.2) in
-      (after.0, ap₂ (λ l ls. l ∷ ls) same.0 after.1)
-
 -- no column of an input with legal gaps brings the debt above its limit
 module _ (options : EncodeOptions) (lines : List FrameLine) (line : FrameLine) (own : List Column) where
   abbrev before : List Column
@@ -118,9 +103,9 @@ module _ (options : EncodeOptions) (lines : List FrameLine) (line : FrameLine) (
       → HasLegalGaps options.period (columns_of_lines all)
       → Begins frame_line_at taken (lines ++ line ∷ []) behind → IsTooTight options.period before own (columns_of line.frame line.gap) → ⊥
   none-tight octets taken rest behind all same whole legal begins tight =
-      let others = begins-whole frame_line_at frame_grammar octets (lines ++ line ∷ []) (behind ++ rest) all
+      let others = lines-behind frame_line_at octets (lines ++ line ∷ []) (behind ++ rest) all frame_grammar
       (subst (λ os. Begins frame_line_at os (lines ++ line ∷ []) (behind ++ rest)) (sym same) (begins-more frame_line_at taken (lines ++ line ∷ []) behind rest frame_grammar begins)) whole in
-      none-over others.0 (subst (λ ls. HasLegalGaps options.period (columns_of_lines ls)) others.1 legal) tight
+      none-over others.0 (subst (λ ls. HasLegalGaps options.period (columns_of_lines ls)) others.2 legal) tight
 
 encoded : (options : EncodeOptions) (seen : Seen) (octets rest : List ℕ) (lines : List FrameLine) (outcome : Status)
     → seen.left_before ≡ Some octets → seen.left_after ≡ Some rest
