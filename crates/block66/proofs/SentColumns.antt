@@ -4,8 +4,8 @@ use Rattle.std.specs.Prelude.{slice_range}
 use Rattle.std.specs.List.{AllByRecursion}
 use Rattle.std.proofs.lemmas.Bool.{cases_lt}
 use Rattle.mac_columns.specs.declared.column.Column.{Column}
-use Rattle.mac_columns.specs.declared.column.Column.TheVariants.{Start, Data, End, Idle}
-use Rattle.mac_columns.specs.Columns.{columns_of, body_of, preamble}
+use Rattle.mac_columns.specs.declared.column.Column.TheVariants.{Data, End, Idle}
+use Rattle.mac_columns.specs.Columns.{columns_of, columns_of_set, body_of, preamble}
 use Rattle.mac_columns.proofs.BodyLemmas.{body-more, body-short}
 use Rattle.block66.specs.Blocks.{AreOctets, HasOctets, block_of, column_of}
 use Rattle.block66.proofs.Octets.{no-octets, one-more, take-octets}
@@ -49,6 +49,10 @@ preamble-octets (suc (suc (suc (suc (suc (suc i)))))) = one-more 0xd5 [] (lit< t
 pub columns-octets : (frame : List ℕ) (gap : ℕ) → AreOctets frame → AllByRecursion HasOctets (columns_of frame gap)
 unfolding columns_of
 columns-octets frame gap octets = ((refl, preamble-octets), body-octets (suc (length frame)) frame gap (omega arith) octets)
+
+pub set-columns-octets : (octets : List ℕ) (gap : ℕ) → length octets ≡ 3 → AreOctets octets → AllByRecursion HasOctets (columns_of_set octets gap)
+unfolding columns_of_set
+set-columns-octets octets gap three are = ((three, are), idles-octets gap)
 
 pub columns-return : (frame : List ℕ) (gap : ℕ) → AreOctets frame → map column_of (map block_of (columns_of frame gap)) ≡ columns_of frame gap
 columns-return frame gap octets = all-return (columns_of frame gap) (columns-octets frame gap octets)

@@ -1,11 +1,11 @@
 //! Thirty-two symbols at a time, in lanes of `std::simd`: each lane is the field's operation.
 #![tactic(auto)]
 
-ghost use Rattle.std.specs.Prelude.{◌≡◌, ℕ, ◌<◌, List, map, slice_index_or};
+ghost use Rattle.std.specs.Prelude.{◌≡◌, ℕ, ◌<◌, List, ◌∷◌, length, map, take, slice_index_or};
 ghost use Rattle.gf1024.specs.Symbol.{Symbol, symbol, sum_of, product_of, zero_symbol, gf};
 ghost use Rattle.field_base.specs.Field.{total};
 ghost use Rattle.gf_lanes.specs.Lanes.{EachLane, AreSymbols, AreProducts};
-ghost use Rattle.gf_lanes.specs.Lanes.{doubled_word, added_lanes};
+ghost use Rattle.gf_lanes.specs.Lanes.{AreLowProducts, AreShort, AreReduced};
 ghost use Rattle.gf_lanes.specs.Facts.{numbers_again};
 
 use gf1024::Gf;
@@ -44,6 +44,17 @@ impl Gf32 {
         }
     }
 
+    /// The symbols of thirty-two numbers below 1024.
+    #[inline(always)]
+    pub fn of_numbers(numbers: [u16; 32]) -> Gf32
+        requires { AreSymbols numbers }
+        ensures { result ≡ map symbol numbers }
+    {
+        Gf32 {
+            lanes: u16x32::from_array(numbers),
+        }
+    }
+
     #[inline(always)]
     pub fn lane(&self, i: usize) -> Gf
         requires { i < 32 }
@@ -53,7 +64,7 @@ impl Gf32 {
     }
 }
 
-/// The product lane by lane. Where a loop keeps one factor, let it be `a`: its multiples are then
+/// The product lane by lane. Where a loop keeps one factor, let it be `a`: `x^5` times it is then
 /// taken once.
 #[inline(always)]
 pub fn mul(a: Gf32, b: Gf32) -> Gf32
@@ -74,13 +85,46 @@ pub fn add(a: Gf32, b: Gf32) -> Gf32
     }
 }
 
-/// `a * step + c` lane by lane. A loop that keeps `step` takes its multiples once.
+/// `a * step + c` lane by lane. A loop that keeps `step` takes `x^5` times it once.
 #[inline(always)]
 pub fn horner(a: Gf32, step: Gf32, c: Gf) -> Gf32
     ensures { EachLane (λ x y. sum_of (product_of x y) c) a step result }
 {
     Gf32 {
         lanes: products(step.lanes, a.lanes) ^ u16x32::splat(c.value()),
+    }
+}
+
+/// Each symbol four lanes on, behind four zeros; the last four are dropped.
+#[inline(always)]
+pub fn four_on(a: Gf32) -> Gf32
+    ensures { result ≡ zero_symbol ∷ zero_symbol ∷ zero_symbol ∷ zero_symbol ∷ take 28 a }
+{
+    Gf32 {
+        lanes: u16x32::splat(0).shuffle(
+            a.lanes,
+            [
+                0, 1, 2, 3, 32, 33, 34, 35, 36, 37, 38, 39, 40, 41, 42, 43, 44, 45, 46, 47, 48, 49,
+                50, 51, 52, 53, 54, 55, 56, 57, 58, 59,
+            ],
+        ),
+    }
+}
+
+/// Each symbol one lane on, behind another symbol; the last one is dropped.
+#[inline(always)]
+pub fn one_on(first: Gf, a: Gf32) -> Gf32
+    ensures lanes { result ≡ first ∷ take 31 a }
+    ensures long { length result ≡ 32 }
+{
+    Gf32 {
+        lanes: u16x32::splat(first.value()).shuffle(
+            a.lanes,
+            [
+                0, 32, 33, 34, 35, 36, 37, 38, 39, 40, 41, 42, 43, 44, 45, 46, 47, 48, 49, 50, 51,
+                52, 53, 54, 55, 56, 57, 58, 59, 60, 61, 62,
+            ],
+        ),
     }
 }
 
@@ -92,48 +136,39 @@ pub fn sum(a: Gf32) -> Gf
     Gf::low(a.lanes.reduce_xor())
 }
 
-// The products of the lanes of `a` and `b`, written out, since a loop over the bits is slower.
+// The products of the lanes of `a` and `b`, by the five low and by the five high bits of `b`.
 #[inline(always)]
 fn products(a: u16x32, b: u16x32) -> u16x32
     requires left { AreSymbols a }
     requires right { AreSymbols b }
     ensures { AreProducts a b result }
 {
-    let a1 = doubled(a);
-    let a2 = doubled(a1);
-    let a3 = doubled(a2);
-    let a4 = doubled(a3);
-    let a5 = doubled(a4);
-    let a6 = doubled(a5);
-    let a7 = doubled(a6);
-    let a8 = doubled(a7);
-    let a9 = doubled(a8);
-    let s0 = added(u16x32::splat(0), a, b, 0);
-    let s1 = added(s0, a1, b, 1);
-    let s2 = added(s1, a2, b, 2);
-    let s3 = added(s2, a3, b, 3);
-    let s4 = added(s3, a4, b, 4);
-    let s5 = added(s4, a5, b, 5);
-    let s6 = added(s5, a6, b, 6);
-    let s7 = added(s6, a7, b, 7);
-    let s8 = added(s7, a8, b, 8);
-    added(s8, a9, b, 9)
+    let raised = reduced(a << u16x32::splat(5));
+    let low = low_products(a, b);
+    let high = low_products(raised, b >> u16x32::splat(5));
+    reduced(low ^ high)
 }
 
-// x times each lane.
+// The products by the five lowest bits of `b`, as polynomials: words of up to fourteen bits.
 #[inline(always)]
-fn doubled(a: u16x32) -> u16x32
-    ensures { result ≡ map doubled_word a }
+fn low_products(a: u16x32, b: u16x32) -> u16x32
+    requires left { AreSymbols a }
+    requires right { length b ≡ 32 }
+    ensures { AreLowProducts a b result }
 {
-    ((a + a) & u16x32::splat(1023)) ^ ((a >> u16x32::splat(9)) * u16x32::splat(9))
+    ((b & u16x32::splat(1)) * a)
+        ^ ((b & u16x32::splat(2)) * a)
+        ^ ((b & u16x32::splat(4)) * a)
+        ^ ((b & u16x32::splat(8)) * a)
+        ^ ((b & u16x32::splat(16)) * a)
 }
 
-// The sum, with the multiple added where bit `k` of the factor is 1.
+// What x^10 + x^3 + 1 leaves of words of up to fifteen bits.
 #[inline(always)]
-#[tactic(auto, unfolding(crate::specs::Lanes::added_lanes))]
-fn added(sum: u16x32, multiple: u16x32, factor: u16x32, k: u16) -> u16x32
-    requires { k < 16 }
-    ensures { result ≡ added_lanes k sum multiple factor }
+fn reduced(words: u16x32) -> u16x32
+    requires { AreShort words }
+    ensures { AreReduced words result }
 {
-    sum ^ (((factor >> u16x32::splat(k)) & u16x32::splat(1)) * multiple)
+    let high = words >> u16x32::splat(10);
+    (words & u16x32::splat(1023)) ^ high ^ (high << u16x32::splat(3))
 }

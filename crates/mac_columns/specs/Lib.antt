@@ -1,7 +1,10 @@
+pub mod Buffers
 pub mod Tail
 pub mod TailFields
 pub mod Columns
+pub mod Items
 pub mod Stages
 pub mod Sending
 pub mod Frames
 pub mod Gathering
+pub mod RunPlaces

@@ -1,10 +1,11 @@
 // The frames of columns, one column at a time.
-ghost use Rattle.std.specs.Prelude.{◌≡◌, ℕ, ◌≤◌, ◌↔◌, List, [], ◌∷◌, ◌++◌, length, Some, None, IfOk, IsSome, if◌then◌else◌, vec_len, vec_capacity};
+ghost use Rattle.std.specs.Prelude.{◌≡◌, ◌≤◌, ◌↔◌, List, [], ◌∷◌, length, Some, None, IfOk, IsSome};
 ghost use Rattle.mac_columns.specs.declared.column.Column.{Column};
-ghost use Rattle.mac_columns.specs.Frames.{open_frame, outcome, ended_frame, is_within, answer_of};
-ghost use Rattle.mac_columns.specs.Gathering.{Gathering, HasFrame, Stands, Takes, after};
+ghost use Rattle.mac_columns.specs.Frames.{open_frame, outcome, ended_frame, answer_of};
+ghost use Rattle.mac_columns.specs.Gathering.{HasFrame, Stands, Takes, after};
 
 use crate::Column;
+use crate::frame_buffer::FrameBuffer;
 use std::alloc::{AllocError, Global};
 use std::marker::Model;
 
@@ -19,6 +20,8 @@ pub enum Why {
     Idle,
     /// It had more than 16,384 octets.
     Long,
+    /// An ordered set came.
+    Set,
 }
 
 /// What a column did.
@@ -32,9 +35,6 @@ pub enum Gathered {
     Dropped(Why),
 }
 
-// The greatest number of octets of a frame.
-const MOST_OCTETS: usize = 16384;
-
 #[derive(Clone, Copy)]
 enum Stage {
     Closed,
@@ -45,29 +45,30 @@ enum Stage {
 /// Puts frames together from columns.
 #[derive(Drop)]
 pub struct Gather {
-    octets: Vec<u8>,
+    frame: FrameBuffer,
     stage: Stage,
 }
 
 impl Model for Gather {
-    ghost use Rattle.std.specs.Prelude.{◌≤◌, vec_len, vec_capacity};
     ghost use Rattle.mac_columns.specs.Gathering.{Gathering, gathering};
 
     ghost Value = { Gathering };
 
-    ghost view = { λ g. gathering g.stage g.octets.items };
-
-    ghost invariant = { λ g. (vec_len g.octets ≤ 16384) × (16384 ≤ vec_capacity g.octets) };
+    ghost view = { λ g. gathering g.stage g.frame.octets g.frame.room };
 }
 
 impl Gather {
     /// A `Gather` that has taken no column. It reserves room for one frame, and no later call
     /// takes memory.
+    ///
+    /// # Errors
+    ///
+    /// `AllocError` where there is no memory.
     pub fn open(alloc: Global) -> Result<Self, AllocError>
         ensures { IfOk result (λ gather. Stands gather []) }
     {
         Ok(Gather {
-            octets: Vec::with_capacity(alloc, MOST_OCTETS)?,
+            frame: FrameBuffer::open(alloc)?,
             stage: Stage::Closed,
         })
     }
@@ -79,6 +80,7 @@ impl Gather {
         ensures stands { (past : List Column) → Stands self.old past
             → Stands self.new (column.now ∷ past) }
         ensures frame { (result ≡ Gathered.Whole) ↔ HasFrame self.new }
+        ensures room { self.new.room ≡ self.old.room }
     {
         match self.stage {
             Stage::Open => self.go_on(column),
@@ -92,18 +94,18 @@ impl Gather {
     // Takes a column where a frame is open.
     fn go_on(&mut self, column: &Column) -> Gathered
         requires { IsSome self.old.open_now }
-        ensures { Takes self.old.open_now column.now result self.new }
+        ensures { Takes self.old.open_now self.old.room column.now result self.new }
     {
         match column {
             Column::Data(octets) => {
-                if append_within(&mut self.octets, octets) {
+                if self.frame.append(octets) {
                     return Gathered::Nothing;
                 }
                 self.stage = Stage::Closed;
                 Gathered::Dropped(Why::Long)
             }
             Column::End(tail) => {
-                if append_within(&mut self.octets, tail.octets()) {
+                if self.frame.append(tail.octets()) {
                     self.stage = Stage::Whole;
                     return Gathered::Whole;
                 }
@@ -111,7 +113,7 @@ impl Gather {
                 Gathered::Dropped(Why::Long)
             }
             Column::Start(_) => {
-                self.octets.clear();
+                self.frame.clear();
                 Gathered::Dropped(Why::Start)
             }
             Column::Idle => {
@@ -122,15 +124,19 @@ impl Gather {
                 self.stage = Stage::Closed;
                 Gathered::Dropped(Why::Error)
             }
+            Column::Set(_) => {
+                self.stage = Stage::Closed;
+                Gathered::Dropped(Why::Set)
+            }
         }
     }
 
     // Takes a column where no frame is open.
     fn wait(&mut self, column: &Column)
-        ensures { self.new ≡ after None column.now }
+        ensures { self.new ≡ after None self.old.room column.now }
     {
         if let Column::Start(_) = column {
-            self.octets.clear();
+            self.frame.clear();
             self.stage = Stage::Open;
         } else {
             self.stage = Stage::Closed;
@@ -144,22 +150,6 @@ impl Gather {
             → ended_frame past ≡ Some result.now }
         ensures within { length result.now ≤ 16384 }
     {
-        &self.octets
+        self.frame.octets()
     }
-}
-
-// Appends octets where a frame may have so many.
-fn append_within(frame: &mut Vec<u8>, more: &[u8]) -> bool
-    requires within { vec_len frame.old ≤ 16384 }
-    requires room { 16384 ≤ vec_capacity frame.old }
-    ensures fits { result ≡ is_within (frame.old.items ++ more.now) }
-    ensures items { frame.new.items ≡ (if result then frame.old.items ++ more.now else frame.old.items) }
-    ensures within { vec_len frame.new ≤ 16384 }
-    ensures room { 16384 ≤ vec_capacity frame.new }
-{
-    if more.len() > MOST_OCTETS - frame.len() {
-        return false;
-    }
-    frame.extend_from_slice(more).unwrap();
-    true
 }

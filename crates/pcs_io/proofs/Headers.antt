@@ -1,21 +1,39 @@
 -- Octets of which no field is wrong.
 use Rattle.std.proofs.Common.{◌≡◌, ℕ, ◌≤◌, List, None, take, replicate, refl, ap, Ok}
-use Rattle.std.specs.Prelude.{bytes_eq, codes, slice_range, slice_index, ◌&&◌, Bool, true}
+use Rattle.std.specs.Prelude.{bytes_eq, codes, slice_range, slice_index, ◌&&◌, Bool, true, nat_le}
 use Rattle.std.proofs.lemmas.Bool.{le-leb, eq-eqb}
-use Rattle.pcs_io.specs.Headers.{header_of, header_or, period_of, wrong_place, first_wrong, fields}
-
-all_right : (magic version lanes period zeros : Bool) → magic ≡ true → version ≡ true → lanes ≡ true → period ≡ true → zeros ≡ true
-    → first_wrong (fields magic version lanes period zeros) ≡ None
-all_right magic version lanes period zeros m v l p z = rw (m, v, l, p, z) refl
+use Rattle.pcs_io.specs.Headers.{header_of, header2_of, header_or, period_of, period2_of, skew2_of, most_skew, first_wrong, fields, fields2}
 
 both : (a b : Bool) → a ≡ true → b ≡ true → (a && b) ≡ true
 both a b s t = rw (s, t) refl
 
+pub in_range : (least n most : ℕ) → least ≤ n → n ≤ most → (nat_le least n && nat_le n most) ≡ true
+in_range least n most low high = both _ _ (le-leb least n low) (le-leb n most high)
+
 pub header_right : (octets : List ℕ) → bytes_eq (take 4 octets) (codes "P4LC") ≡ true → slice_index octets 4 ≡ 1 → slice_index octets 5 ≡ 16
     → 1 ≤ period_of octets → period_of octets ≤ 4096 → bytes_eq (slice_range octets 8 16) (replicate 8 0) ≡ true
-    → header_of octets ≡ Ok (record { period = period_of octets })
+    → header_of octets ≡ Ok (record { version = 1; period = period_of octets; skew = most_skew (period_of octets) })
 unfolding header_of
 header_right octets magic version lanes least most zeros =
-    let period = both _ _ (le-leb 1 (period_of octets) least) (le-leb (period_of octets) 4096 most) in
-    let none : wrong_place octets ≡ None = all_right _ _ _ _ _ magic (eq-eqb (slice_index octets 4) 1 version) (eq-eqb (slice_index octets 5) 16 lanes) period zeros in
-    ap (λ wrong. header_or wrong (period_of octets)) none
+    let none : first_wrong (fields octets) ≡ None =
+    rw (magic, eq-eqb (slice_index octets 4) 1 version, eq-eqb (slice_index octets 5) 16 lanes, in_range 1 (period_of octets) 4096 least most, zeros) refl in
+    ap (λ wrong. header_or wrong (record { version = 1; period = period_of octets; skew = most_skew (period_of octets) })) none
+
+pub header2_right : (octets : List ℕ) → bytes_eq (take 4 octets) (codes "P4LC") ≡ true → slice_index octets 4 ≡ 2 → slice_index octets 5 ≡ 16
+    → bytes_eq (slice_range octets 6 8) (replicate 2 0) ≡ true
+    → 1 ≤ period2_of octets → period2_of octets ≤ 65536 → skew2_of octets ≤ most_skew (period2_of octets)
+    → bytes_eq (slice_range octets 16 32) (replicate 16 0) ≡ true
+    → header2_of octets ≡ Ok (record { version = 2; period = period2_of octets; skew = skew2_of octets })
+unfolding header2_of
+header2_right octets magic version lanes zeros least most skew rest =
+    let none : first_wrong (fields2 octets) ≡ None =
+    rw (
+      magic,
+      eq-eqb (slice_index octets 4) 2 version,
+      eq-eqb (slice_index octets 5) 16 lanes,
+      zeros,
+      in_range 1 (period2_of octets) 65536 least most,
+      le-leb (skew2_of octets) (most_skew (period2_of octets)) skew,
+      rest,
+    ) refl in
+    ap (λ wrong. header_or wrong (record { version = 2; period = period2_of octets; skew = skew2_of octets })) none

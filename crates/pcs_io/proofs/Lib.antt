@@ -4,6 +4,7 @@ pub mod Pieces
 pub mod Decoding
 pub mod LineNumbers
 pub mod Progress
+pub mod GatherProgress
 pub mod LineLaws
 pub mod HistoryLemmas
 pub mod Newlines
@@ -11,4 +12,10 @@ pub mod Runs
 pub mod GrammarLaw
 pub mod FirstBadOctet
 pub mod QuickLines
+pub mod TextRuns
 pub mod BlockRuns
+pub mod BeatPieces
+pub mod HeaderReading
+pub mod CaptureCalls
+pub mod HeaderSizes
+pub mod TextLaws

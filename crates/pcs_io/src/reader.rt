@@ -1,5 +1,5 @@
 // The reader of lines, for any grammar.
-ghost use Rattle.std.specs.Prelude.{◌≡◌, ◌<◌, ◌≤◌, ◌+◌, ◌-◌, ◌^◌, ◌⊎◌, length, drop, true, false, IfOk, IsErrOf, IsTrue, Contains, ◌↔◌, MatchResult};
+ghost use Rattle.std.specs.Prelude.{◌≡◌, ◌<◌, ◌≤◌, ◌+◌, ◌-◌, ◌^◌, ◌⊎◌, length, drop, true, false, IfOk, IsErrOf, IsTrue, Contains, ◌↔◌, MatchResult, Ok};
 ghost use Rattle.pcs_io.specs.Faults.{HasCause, Rose};
 ghost use Rattle.pcs_io.specs.Reading.{Finds, FailsOpen, Stepped};
 ghost use Rattle.pcs_io.specs.Advancing.{FindsLine};
@@ -40,7 +40,7 @@ impl<P: Parser + Drop> Model for Reader<P> {
 }
 
 impl<P: Parser + Drop> Reader<P> {
-    ghost use Rattle.pcs_io.specs.Histories.{ReaderState, Stands, Nexts, answer_of, opened};
+    ghost use Rattle.pcs_io.specs.Histories.{ReaderState, Stands, Nexts, answer_of, opened, octets_ahead};
     ghost use Rattle.pcs_io.specs.Advancing.{Calls};
 
     pub fn open(alloc: Global, limit: u64, parser: P) -> Result<Self, AllocError>
@@ -69,6 +69,50 @@ impl<P: Parser + Drop> Reader<P> {
         memchr(b'\n', self.input.unused()).is_some()
     }
 
+    /// Whether so many octets were taken and are not answered.
+    pub fn holds(&self, count: usize) -> bool
+        ensures { IsTrue result ↔ (count ≤ length self.now.buffer.unused) }
+    {
+        count <= self.input.unused().len()
+    }
+
+    /// The octets that were taken and are not answered.
+    pub fn unused(&self) -> &[u8]
+        ensures octets { result.now ≡ self.now.buffer.unused }
+        ensures within { length result.now ≤ 65536 }
+    {
+        self.input.unused()
+    }
+
+    /// What may still be answered is no more than the limit, and what waits fits the buffer.
+    #[inline]
+    pub fn stays_within(&self)
+        ensures limit { octets_ahead self.now ≤ self.now.buffer.limit }
+        ensures buffer { length self.now.buffer.unused ≤ 65536 }
+    {
+        let _unused = self.input.unused();
+    }
+
+    /// Answers the first octets at once, as so many lines.
+    pub fn pass(&mut self, octets: usize, lines: u64)
+        requires within { octets ≤ length self.old.buffer.unused }
+        requires lines { lines ≤ octets }
+        ensures { self.new ≡ record self.old {
+          buffer = record self.old.buffer { unused = drop octets self.old.buffer.unused };
+          lines = self.old.lines + lines;
+        } }
+    {
+        self.input.advance(octets);
+        self.lines += lines;
+    }
+
+    /// How many octets were taken.
+    pub fn taken(&self) -> u64
+        ensures { result ≡ self.now.buffer.taken }
+    {
+        self.input.taken()
+    }
+
     /// How many lines were answered.
     pub fn answered(&self) -> u64
         ensures { result ≡ self.now.lines }
@@ -79,6 +123,7 @@ impl<P: Parser + Drop> Reader<P> {
     /// Reads the next line, and answers whether there is one.
     pub fn next<S: Source>(&mut self, source: &mut S) -> Result<bool, InFault>
         ensures nexts { Nexts P.line_at self.old self.new (S.left source.old) (S.left source.new) (S.ended source.new) (answer_of result (P.line self.new.parser)) }
+        ensures going { result ≡ Ok true → self.new.standing ≡ Standing.Going }
         ensures later { S.faults source.old ≤ S.faults source.new }
         ensures read { IsErrOf result InFault.Read → (Rose (S.faults source.old) (S.faults source.new)) ⊎ (self.old.standing ≡ Standing.Failed InFault.Read) }
     {

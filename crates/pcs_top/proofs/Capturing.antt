@@ -16,42 +16,41 @@ use Rattle.pcs_send.proofs.Pairs.{wides-mono, whole_pairs-is}
 use Rattle.pcs_send.proofs.Carrying.{pairs_octets-next, pairs_octets-later}
 use Rattle.pcs_send.proofs.CarriedBeats.{carried_octets}
 use Rattle.pcs_send.proofs.Filling.{room_of_pair, whole_pairs-fits}
-use Rattle.pcs_io.specs.Headers.{header_octets}
-use Rattle.pcs_top.specs.Captures.{capture_octets}
+use Rattle.pcs_top.specs.Captures.{capture_octets, form_header}
 use Rattle.pcs_top.specs.Sending.{HasSent, with_pairs, AreWhole}
-use Rattle.pcs_top.specs.Writing.{Wrote, Puts, BreaksOff}
+use Rattle.pcs_drive.specs.Writing.{Wrote, Puts, BreaksOff}
 use Rattle.pcs_top.proofs.Idling.{with_idles}
 use Rattle.pcs_io.specs.Octets.{AppendsFront}
-use Rattle.pcs_top.proofs.WritingLemmas.{front-more}
+use Rattle.pcs_drive.proofs.WritingLemmas.{front-more}
 
 -- the capture of all whole pairs
-abbrev pub capture : ℕ → List Column → List ℕ
-capture p cs = capture_octets p (carried p cs)
+abbrev pub capture : ℕ → ℕ → List Column → List ℕ
+capture f p cs = capture_octets f p (carried p cs)
 
-pub capture-is : (p : ℕ) (cs : List Column) (t : ℕ) → columns_before p t ≤ length cs → length cs < columns_before p (t + 1)
-    → capture p cs ≡ header_octets p ++ pairs_octets p cs t
+pub capture-is : (f : ℕ) (p : ℕ) (cs : List Column) (t : ℕ) → columns_before p t ≤ length cs → length cs < columns_before p (t + 1)
+    → capture f p cs ≡ form_header f p ++ pairs_octets p cs t
 unfolding capture_octets
-capture-is p cs t from low =
-    ap (λ o. header_octets p ++ o) (carried_octets p cs ∙ ap (pairs_octets p cs) (whole_pairs-is p (length cs) t from low))
+capture-is f p cs t from low =
+    ap (λ o. form_header f p ++ o) (carried_octets p cs ∙ ap (pairs_octets p cs) (whole_pairs-is p (length cs) t from low))
 
 -- columns that fill no pair
-pub capture-same : (p : ℕ) (cs more : List Column) (t : ℕ) → columns_before p t ≤ length cs → length (cs ++ more) < columns_before p (t + 1)
-    → capture p (cs ++ more) ≡ capture p cs
-capture-same p cs more t from low =
+pub capture-same : (f : ℕ) (p : ℕ) (cs more : List Column) (t : ℕ) → columns_before p t ≤ length cs → length (cs ++ more) < columns_before p (t + 1)
+    → capture f p (cs ++ more) ≡ capture f p cs
+capture-same f p cs more t from low =
     let size = length-append cs more in
-    capture-is p (cs ++ more) t (omega (arith, size, from)) low
-    ∙ ap (λ o. header_octets p ++ o) (pairs_octets-later p t cs more from)
-    ∙ sym (capture-is p cs t from (omega (arith, size, low)))
+    capture-is f p (cs ++ more) t (omega (arith, size, from)) low
+    ∙ ap (λ o. form_header f p ++ o) (pairs_octets-later p t cs more from)
+    ∙ sym (capture-is f p cs t from (omega (arith, size, low)))
 
 -- columns that fill a pair
-pub capture-more : (p : ℕ) (cs more : List Column) (t : ℕ) → columns_before p t ≤ length cs → length cs < columns_before p (t + 1)
+pub capture-more : (f : ℕ) (p : ℕ) (cs more : List Column) (t : ℕ) → columns_before p t ≤ length cs → length cs < columns_before p (t + 1)
     → length (cs ++ more) ≡ columns_before p (t + 1)
-    → capture p (cs ++ more) ≡ capture p cs ++ flat (pair_beats p (cs ++ more) t)
-capture-more p cs more t from low full =
-    capture-is p (cs ++ more) (t + 1) (omega (arith, full)) (omega (arith, full, room_of_pair p (t + 1)))
-    ∙ ap (λ o. header_octets p ++ o) (pairs_octets-next p (cs ++ more) t ∙ ap (λ o. o ++ flat (pair_beats p (cs ++ more) t)) (pairs_octets-later p t cs more from))
-    ∙ sym (append_assoc (header_octets p) (pairs_octets p cs t) (flat (pair_beats p (cs ++ more) t)))
-    ∙ ap (λ o. o ++ flat (pair_beats p (cs ++ more) t)) (sym (capture-is p cs t from low))
+    → capture f p (cs ++ more) ≡ capture f p cs ++ flat (pair_beats p (cs ++ more) t)
+capture-more f p cs more t from low full =
+    capture-is f p (cs ++ more) (t + 1) (omega (arith, full)) (omega (arith, full, room_of_pair p (t + 1)))
+    ∙ ap (λ o. form_header f p ++ o) (pairs_octets-next p (cs ++ more) t ∙ ap (λ o. o ++ flat (pair_beats p (cs ++ more) t)) (pairs_octets-later p t cs more from))
+    ∙ sym (append_assoc (form_header f p) (pairs_octets p cs t) (flat (pair_beats p (cs ++ more) t)))
+    ∙ ap (λ o. o ++ flat (pair_beats p (cs ++ more) t)) (sym (capture-is f p cs t from low))
 
 -- fewer columns fill no more pairs
 pub pairs-in-order : (p t u m : ℕ) → columns_before p t ≤ m → m < columns_before p (u + 1) → t ≤ u
@@ -70,8 +69,8 @@ pairs_octets-front p cs t k = (
 )
 
 -- the capture of more columns goes on with that of the first ones
-pub capture-front : (p : ℕ) (cs more : List Column) → (rest : List ℕ) × (capture p (cs ++ more) ≡ capture p cs ++ rest)
-capture-front p cs more =
+pub capture-front : (f : ℕ) (p : ℕ) (cs more : List Column) → (rest : List ℕ) × (capture f p (cs ++ more) ≡ capture f p cs ++ rest)
+capture-front f p cs more =
     let t = whole_pairs p (length cs) in
     let u = whole_pairs p (length (cs ++ more)) in
     let fits = whole_pairs-fits p (length cs) in
@@ -80,22 +79,22 @@ capture-front p cs more =
     let there : u ≡ t + (u - t) = omega (arith, few) in
     let front = pairs_octets-front p (cs ++ more) t (u - t) in (
       front.0,
-      capture-is p (cs ++ more) u fits'.0 fits'.1
-          ∙ ap (λ n. header_octets p ++ pairs_octets p (cs ++ more) n) there
-          ∙ ap (λ o. header_octets p ++ o) (front.1 ∙ ap (λ o. o ++ front.0) (pairs_octets-later p t cs more fits.0))
-          ∙ sym (append_assoc (header_octets p) (pairs_octets p cs t) front.0)
-          ∙ ap (λ o. o ++ front.0) (sym (capture-is p cs t fits.0 fits.1)),
+      capture-is f p (cs ++ more) u fits'.0 fits'.1
+          ∙ ap (λ n. form_header f p ++ pairs_octets p (cs ++ more) n) there
+          ∙ ap (λ o. form_header f p ++ o) (front.1 ∙ ap (λ o. o ++ front.0) (pairs_octets-later p t cs more fits.0))
+          ∙ sym (append_assoc (form_header f p) (pairs_octets p cs t) front.0)
+          ∙ ap (λ o. o ++ front.0) (sym (capture-is f p cs t fits.0 fits.1)),
     )
 
 -- a pair is taken behind these columns, and its beats are put
-pub pair-sent : (new : State) (h : Sending) (p : ℕ) (cs more : List Column) (owed : ℕ) (start held now : Option (List ℕ))
+pub pair-sent : (new : State) (h : Sending) (f : ℕ) (p : ℕ) (cs more : List Column) (owed : ℕ) (start held now : Option (List ℕ))
     (pending after : List ℕ) (beats : List (List ℕ))
     → h.debt ≡ owed → h.period ≡ p → h.placed ≡ cs ++ more → columns_before p h.taken ≤ length cs
     → length cs < columns_before p (h.taken + 1) → length (cs ++ more) ≡ columns_before p (h.taken + 1)
-    → Wrote start held (capture p cs) pending → beats ≡ pair_beats h.period h.placed h.taken → Stands new (after_take h)
+    → Wrote start held (capture f p cs) pending → beats ≡ pair_beats h.period h.placed h.taken → Stands new (after_take h)
     → Puts held pending (flat beats) now after
-    → HasSent new p (cs ++ more) owed start now after
-pair-sent new h p cs more owed start held now pending after beats debt period placed from low full wrote are stands puts = record {
+    → HasSent new f p (cs ++ more) owed start now after
+pair-sent new h f p cs more owed start held now pending after beats debt period placed from low full wrote are stands puts = record {
   history = after_take h;
   stands = stands;
   period = period;
@@ -104,8 +103,8 @@ pair-sent new h p cs more owed start held now pending after beats debt period pl
   from = omega (arith, full);
   low = omega (arith, full, room_of_pair p (h.taken + 1));
   wrote = subst (λ t. Wrote start now t after)
-      (ap (λ b. capture p cs ++ flat b) (are ∙ ap₂ (λ q xs. pair_beats q xs h.taken) period placed) ∙ sym (capture-more p cs more h.taken from low full))
-      (puts start (capture p cs) wrote);
+      (ap (λ b. capture f p cs ++ flat b) (are ∙ ap₂ (λ q xs. pair_beats q xs h.taken) period placed) ∙ sym (capture-more f p cs more h.taken from low full))
+      (puts start (capture f p cs) wrote);
 }
 
 pub idles-append : (m n : ℕ) → idles m ++ idles n ≡ idles (m + n)
@@ -149,7 +148,7 @@ are_whole-with_pairs p cs n whole =
     ap (columns_before p) (ap (whole_pairs p) size ∙ whole_pairs-is p (columns_before p (t + n)) (t + n) (omega arith) (room_of_pair p (t + n))) ∙ sym size
 
 -- the pair in hand, filled with idles
-module _ (old : State) (p : ℕ) (cs : List Column) (owed : ℕ) (start held : Option (List ℕ)) (pending : List ℕ) (o : HasSent old p cs owed start held pending) where
+module _ (old : State) (f : ℕ) (p : ℕ) (cs : List Column) (owed : ℕ) (start held : Option (List ℕ)) (pending : List ℕ) (o : HasSent old f p cs owed start held pending) where
   abbrev filled : Sending
   filled = with_idles o.history (end_column o.history - length o.history.placed)
 
@@ -178,19 +177,19 @@ module _ (old : State) (p : ℕ) (cs : List Column) (owed : ℕ) (start held : O
     module _ (now : Option (List ℕ)) where
       pub idle-pair-sent : (new : State) (after : List ℕ) → ((h : Sending) → Stands mid h → Stands new (after_take h))
           → ((h : Sending) → Stands mid h → Puts held pending (flat (pair_beats h.period h.placed h.taken)) now after)
-          → HasSent new p (with_pairs p cs 1) owed start now after
+          → HasSent new f p (with_pairs p cs 1) owed start now after
       idle-pair-sent new after takes puts =
-          pair-sent new filled p cs (idles (columns_before p (whole_pairs p (length cs) + 1) - length cs)) owed start held now pending after
+          pair-sent new filled f p cs (idles (columns_before p (whole_pairs p (length cs) + 1) - length cs)) owed start held now pending after
           (pair_beats filled.period filled.placed filled.taken) o.debt o.period filled-placed o.from o.low filled-size o.wrote refl
           (takes filled filled-stands) (puts filled filled-stands)
 
       pub idle-pair-failed : ((h : Sending) → Stands mid h → BreaksOff held pending (flat (pair_beats h.period h.placed h.taken)) now)
-          → AppendsFront start now (capture p (with_pairs p cs 1))
+          → AppendsFront start now (capture f p (with_pairs p cs 1))
       idle-pair-failed failed =
           subst (AppendsFront start now)
-          (ap (λ b. capture p cs ++ flat b) (ap₂ (λ q xs. pair_beats q xs o.history.taken) o.period filled-placed)
-          ∙ sym (capture-more p cs (idles (columns_before p (whole_pairs p (length cs) + 1) - length cs)) o.history.taken o.from o.low filled-size))
-          (failed filled filled-stands start (capture p cs) o.wrote)
+          (ap (λ b. capture f p cs ++ flat b) (ap₂ (λ q xs. pair_beats q xs o.history.taken) o.period filled-placed)
+          ∙ sym (capture-more f p cs (idles (columns_before p (whole_pairs p (length cs) + 1) - length cs)) o.history.taken o.from o.low filled-size))
+          (failed filled filled-stands start (capture f p cs) o.wrote)
 
 -- more pairs of idles go on with the first ones
 with_pairs-front : (p : ℕ) (cs : List Column) (m n : ℕ) → AreWhole p cs → m ≤ n
@@ -205,25 +204,25 @@ with_pairs-front p cs m n whole few =
     (idles b, ap (λ k. cs ++ idles k) count ∙ ap (λ xs. cs ++ xs) (sym (idles-append a b)) ∙ sym (append_assoc cs (idles a) (idles b)))
 
 -- a front of the capture of fewer pairs is one of the capture of more
-pub front-pairs : (p : ℕ) (cs : List Column) (m n : ℕ) (start now : Option (List ℕ)) → AreWhole p cs → m ≤ n
-    → AppendsFront start now (capture p (with_pairs p cs m))
-    → AppendsFront start now (capture p (with_pairs p cs n))
-front-pairs p cs m n start now whole few front =
+pub front-pairs : (f : ℕ) (p : ℕ) (cs : List Column) (m n : ℕ) (start now : Option (List ℕ)) → AreWhole p cs → m ≤ n
+    → AppendsFront start now (capture f p (with_pairs p cs m))
+    → AppendsFront start now (capture f p (with_pairs p cs n))
+front-pairs f p cs m n start now whole few front =
     let more = with_pairs-front p cs m n whole few in
-    let rest = capture-front p (with_pairs p cs m) more.0 in
-    subst (AppendsFront start now) (sym (ap (capture p) more.1 ∙ rest.1)) (front-more start now (capture p (with_pairs p cs m)) rest.0 front)
+    let rest = capture-front f p (with_pairs p cs m) more.0 in
+    subst (AppendsFront start now) (sym (ap (capture f p) more.1 ∙ rest.1)) (front-more start now (capture f p (with_pairs p cs m)) rest.0 front)
 
 -- pairs of idles, one by one
-pub idle-pairs-none : (s : State) (p : ℕ) (cs : List Column) (owed : ℕ) (start held : Option (List ℕ)) (pending : List ℕ)
-    → HasSent s p cs owed start held pending → AreWhole p cs
-    → HasSent s p (with_pairs p cs 0) owed start held pending
-idle-pairs-none s p cs owed start held pending o whole = subst (λ xs. HasSent s p xs owed start held pending) (sym (with_no_pairs p cs whole)) o
+pub idle-pairs-none : (s : State) (f : ℕ) (p : ℕ) (cs : List Column) (owed : ℕ) (start held : Option (List ℕ)) (pending : List ℕ)
+    → HasSent s f p cs owed start held pending → AreWhole p cs
+    → HasSent s f p (with_pairs p cs 0) owed start held pending
+idle-pairs-none s f p cs owed start held pending o whole = subst (λ xs. HasSent s f p xs owed start held pending) (sym (with_no_pairs p cs whole)) o
 
-pub idle-pairs-next : (s : State) (p : ℕ) (cs : List Column) (n : ℕ) (owed : ℕ) (start held : Option (List ℕ)) (pending : List ℕ) → AreWhole p cs
-    → HasSent s p (with_pairs p (with_pairs p cs n) 1) owed start held pending → HasSent s p (with_pairs p cs (n + 1)) owed start held pending
-idle-pairs-next s p cs n owed start held pending whole o = subst (λ xs. HasSent s p xs owed start held pending) (with_one_pair p cs n whole) o
+pub idle-pairs-next : (s : State) (f : ℕ) (p : ℕ) (cs : List Column) (n : ℕ) (owed : ℕ) (start held : Option (List ℕ)) (pending : List ℕ) → AreWhole p cs
+    → HasSent s f p (with_pairs p (with_pairs p cs n) 1) owed start held pending → HasSent s f p (with_pairs p cs (n + 1)) owed start held pending
+idle-pairs-next s f p cs n owed start held pending whole o = subst (λ xs. HasSent s f p xs owed start held pending) (with_one_pair p cs n whole) o
 
-pub idle-pairs-failed : (p : ℕ) (cs : List Column) (n m : ℕ) (start now : Option (List ℕ)) → AreWhole p cs → n < m
-    → AppendsFront start now (capture p (with_pairs p (with_pairs p cs n) 1)) → AppendsFront start now (capture p (with_pairs p cs m))
-idle-pairs-failed p cs n m start now whole few front =
-    front-pairs p cs (n + 1) m start now whole (omega (arith, few)) (subst (λ xs. AppendsFront start now (capture p xs)) (with_one_pair p cs n whole) front)
+pub idle-pairs-failed : (f : ℕ) (p : ℕ) (cs : List Column) (n m : ℕ) (start now : Option (List ℕ)) → AreWhole p cs → n < m
+    → AppendsFront start now (capture f p (with_pairs p (with_pairs p cs n) 1)) → AppendsFront start now (capture f p (with_pairs p cs m))
+idle-pairs-failed f p cs n m start now whole few front =
+    front-pairs f p cs (n + 1) m start now whole (omega (arith, few)) (subst (λ xs. AppendsFront start now (capture f p xs)) (with_one_pair p cs n whole) front)

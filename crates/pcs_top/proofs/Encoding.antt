@@ -1,7 +1,6 @@
 -- Lines that are sent one by one.
 use Rattle.std.proofs.Common.{◌≡◌, ℕ, ◌^◌, ◌≤◌, inl, inr, List, [], ◌∷◌, ◌++◌, length, Option, Some, None, Result, Ok, Err, Bool, refl, sym, ◌∙◌, ap, subst, arith, append-nil, append_assoc, length-append}
 use Rattle.std.proofs.lemmas.List.Concat.{flat_map-append}
-use Rattle.mac_columns.specs.Columns.{columns_of}
 use Rattle.mac_columns.specs.declared.column.Column.{Column}
 use Rattle.rate_match.specs.Kept.{HasLegalGaps}
 use Rattle.rate_match.proofs.Keeping.{legal_gaps-nil}
@@ -16,21 +15,21 @@ use Rattle.pcs_io.specs.Octets.{TakesWhereTold}
 use Rattle.pcs_io.specs.Grammars.{Begins}
 use Rattle.pcs_io.proofs.Told.{consumes-none, consumes-append, takes-after, takes-consumed}
 use Rattle.pcs_io.specs.declared.fault.Kind.{Kind}
-use Rattle.pcs_top.specs.LineCommand.{IsRefused}
-use Rattle.pcs_top.specs.Seen.{Seen, TookAll, Written, ReadFailed, WriteFailed}
-use Rattle.pcs_top.specs.Statuses.{status_of}
-use Rattle.pcs_top.specs.Captures.{columns_of_lines, begun_octets, sent_octets}
-use Rattle.pcs_top.specs.Encoding.{Encoded, Encodes, HasBegun}
-use Rattle.pcs_top.specs.Sending.{HasPut, FrameHalts}
-use Rattle.pcs_top.specs.Writing.{Wrote, Stays, BreaksOffBefore}
-use Rattle.pcs_top.specs.declared.options.EncodeOptions.{EncodeOptions}
+use Rattle.pcs_drive.specs.LineCommand.{IsRefused}
+use Rattle.pcs_drive.specs.Seen.{Seen, TookAll, Written, ReadFailed, WriteFailed}
+use Rattle.pcs_drive.specs.Outcomes.{outcome_of}
+use Rattle.pcs_top.specs.Captures.{begun_octets, sent_octets}
+use Rattle.pcs_top.specs.LineColumns.{columns_of_line, columns_of_lines}
+use Rattle.pcs_top.specs.Encoding.{BrokeOff, Encoded, Encodes, HasBegun}
+use Rattle.pcs_top.specs.Sending.{HasPut, LineHalts}
+use Rattle.pcs_drive.specs.Writing.{Wrote, Stays, BreaksOffBefore}
+use Rattle.pcs_words.specs.declared.command.EncodeOptions.{EncodeOptions}
 use Rattle.pcs_top.specs.declared.encode.Halt.{Halt}
 use Rattle.pcs_top.specs.declared.encode.Halt.TheVariants as halt
-use Rattle.pcs_top.specs.declared.status.Status.{Status}
-use Rattle.pcs_top.specs.declared.status.Status.TheVariants.{Done, Usage, ReadFault, WriteFault, NoMemory, BadLine, TooTight, TooLong, NotesFault}
-use Rattle.pcs_top.proofs.WritingLemmas.{wrote-all}
-use Rattle.pcs_top.proofs.Copying.{Copied, reading, all-written, took-all, took-more, refused, behind-fault, tells}
-use Rattle.pcs_top.proofs.Framing.{begun-front}
+use Rattle.pcs_drive.specs.declared.outcome.Outcome.{Outcome}
+use Rattle.pcs_drive.specs.declared.outcome.Outcome.TheVariants.{Done, ReadFault, WriteFault, NoMemory, BadLine, BadHeader, TooTight, Cut, NotAligned, TooLong}
+use Rattle.pcs_drive.proofs.WritingLemmas.{wrote-all}
+use Rattle.pcs_drive.proofs.Copying.{Copied, reading, all-written, took-all, took-more, refused, behind-fault, tells}
 
 no-lines : columns_of_lines [] ≡ []
 unfolding columns_of_lines
@@ -38,12 +37,12 @@ no-lines = refl
 
 pub columns-append : (lines more : List FrameLine) → columns_of_lines (lines ++ more) ≡ columns_of_lines lines ++ columns_of_lines more
 unfolding columns_of_lines
-columns-append = flat_map-append (λ (l : FrameLine). columns_of l.frame l.gap)
+columns-append = flat_map-append columns_of_line
 
 pub one-line : (lines : List FrameLine) (line : FrameLine)
-    → columns_of_lines (lines ++ line ∷ []) ≡ columns_of_lines lines ++ columns_of line.frame line.gap
+    → columns_of_lines (lines ++ line ∷ []) ≡ columns_of_lines lines ++ columns_of_line line
 unfolding columns_of_lines
-one-line lines line = columns-append lines (line ∷ []) ∙ ap (λ t. columns_of_lines lines ++ t) (append-nil (columns_of line.frame line.gap))
+one-line lines line = columns-append lines (line ∷ []) ∙ ap (λ t. columns_of_lines lines ++ t) (append-nil (columns_of_line line))
 
 -- text that was put is written at the end
 written : (seen : Seen) (held_mid : Option (List ℕ)) (text pending : List ℕ) → Wrote seen.held_before held_mid text pending
@@ -106,7 +105,7 @@ module _ (o : EncodeOptions) where
     pub sent-line : (sender later : State) (before mid now start held held_now : Option (List ℕ)) (pending after : List ℕ)
         (old new : ReaderState P) (ended : Bool) (line : FrameLine)
         → (c : SoFar sender old before mid start held pending) → Nexts frame_line_at old new mid now ended (Ok (Some line))
-        → ((cs : List Column) → HasPut sender o cs start held pending → HasPut later o (cs ++ columns_of line.frame line.gap) start held_now after)
+        → ((cs : List Column) → HasPut sender o cs start held pending → HasPut later o (cs ++ columns_of_line line) start held_now after)
         → SoFar later new before now start held_now after
     sent-line sender later before mid now start held held_now pending after old new ended line c n puts =
         let t = tells frame_line_at begun_text (HasLines sender) old new before mid now start held pending ended (Ok (Some line)) c n in
@@ -117,7 +116,7 @@ module _ (o : EncodeOptions) where
           stands = t.2;
           took = consumes-append before mid now c.octets t.0 c.took t.1.0;
           wrote = subst (λ xs. Wrote start held_now (begun_octets o xs) after) (sym (one-line c.answered line)) put.sent.wrote;
-          keeps = has-lines later (c.answered ++ line ∷ []) (columns_of_lines c.answered ++ columns_of line.frame line.gap) start held_now after put (one-line c.answered line);
+          keeps = has-lines later (c.answered ++ line ∷ []) (columns_of_lines c.answered ++ columns_of_line line) start held_now after put (one-line c.answered line);
         }
 
     -- the ends
@@ -147,7 +146,7 @@ module _ (o : EncodeOptions) where
       -- a fault of the reader
       pub encoded-fault : (fault : InFault) → Nexts frame_line_at old new mid seen.left_after seen.ended (Err fault)
           → (fault ≡ in_fault.Read → ReadFailed seen)
-          → Stays held pending seen.held_after [] → Encoded o seen (status_of fault)
+          → Stays held pending seen.held_after [] → Encoded o seen (outcome_of fault)
       encoded-fault in_fault.Read n rose flushed =
           let t = tells frame_line_at begun_text (HasLines sender) old new seen.left_before mid seen.left_after seen.held_before held pending seen.ended (Err in_fault.Read) c n in
           (c.octets ++ t.0, c.answered, rose refl, takes-after seen.left_before mid seen.left_after c.octets t.0 c.took t.1.0, t.1.1, begun flushed)
@@ -160,16 +159,16 @@ module _ (o : EncodeOptions) where
 
       -- a column of the line brings the debt above its limit
       module _ (line : FrameLine) (n : Nexts frame_line_at old new mid seen.left_after seen.ended (Ok (Some line))) where
-        abbrev frame_columns : List Column
-        frame_columns = columns_of line.frame line.gap
+        abbrev own_columns : List Column
+        own_columns = columns_of_line line
 
         pub encoded-tight : (number : ℕ) (held_end : Option (List ℕ)) (pending_end : List ℕ) (why : Halt) → why ≡ halt.TooTight
             → ((h : History FrameLine) → Stands frame_line_at new h → number ≡ length h.lines)
-            → ((cs : List Column) → HasPut sender o cs seen.held_before held pending → FrameHalts o cs frame_columns seen.held_before held_end pending_end why)
+            → ((cs : List Column) → HasPut sender o cs seen.held_before held pending → LineHalts o cs own_columns seen.held_before held_end pending_end why)
             → Stays held_end pending_end seen.held_after [] → Encoded o seen (TooTight number)
         encoded-tight number held_end pending_end why is counts halts flushed =
             let t = tells frame_line_at begun_text (HasLines sender) old new seen.left_before mid seen.left_after seen.held_before held pending seen.ended (Ok (Some line)) c n in
-            let halted = subst (FrameHalts o (columns_of_lines c.answered) frame_columns seen.held_before held_end pending_end) is (halts (columns_of_lines c.answered) put-so-far) in (
+            let halted = subst (LineHalts o (columns_of_lines c.answered) own_columns seen.held_before held_end pending_end) is (halts (columns_of_lines c.answered) put-so-far) in (
               c.octets ++ t.0,
               c.answered,
               line,
@@ -183,51 +182,57 @@ module _ (o : EncodeOptions) where
             )
 
         -- its columns end early, since a write failed
-        frame-failed : WriteFailed seen → (own left : List Column) → frame_columns ≡ own ++ left
+        frame-failed : WriteFailed seen → (own left : List Column) → own_columns ≡ own ++ left
             → HasLegalGaps o.period (columns_of_lines c.answered ++ own)
             → AppendsFront seen.held_before seen.held_after (begun_octets o (columns_of_lines c.answered ++ own)) → Encoded o seen WriteFault
         frame-failed rose own left parts legal front =
             let t = tells frame_line_at begun_text (HasLines sender) old new seen.left_before mid seen.left_after seen.held_before held pending seen.ended (Ok (Some line)) c n in (
               c.octets ++ t.0,
               c.answered ++ line ∷ [],
-              t.1.1,
               rose,
-              took-more seen mid c.octets t.0 c.took t.1.0,
-              t.1.2,
-              columns_of_lines c.answered ++ own,
-              left,
-              one-line c.answered line ∙ ap (λ xs. columns_of_lines c.answered ++ xs) parts ∙ sym (append_assoc (columns_of_lines c.answered) own left),
-              legal,
-              begun-front o (columns_of_lines c.answered ++ own) seen.held_before seen.held_after front,
+              inl (
+                t.1.1,
+                took-more seen mid c.octets t.0 c.took t.1.0,
+                t.1.2,
+                columns_of_lines c.answered ++ own,
+                left,
+                one-line c.answered line ∙ ap (λ xs. columns_of_lines c.answered ++ xs) parts ∙ sym (append_assoc (columns_of_lines c.answered) own left),
+                legal,
+                front,
+              ),
             )
 
         pub encoded-frame-failed : (pending_end : List ℕ) (why : Halt) → why ≡ halt.Failed → WriteFailed seen
-            → ((cs : List Column) → HasPut sender o cs seen.held_before held pending → FrameHalts o cs frame_columns seen.held_before seen.held_after pending_end why)
+            → ((cs : List Column) → HasPut sender o cs seen.held_before held pending → LineHalts o cs own_columns seen.held_before seen.held_after pending_end why)
             → Encoded o seen WriteFault
         encoded-frame-failed pending_end why is rose halts =
-            let halted = subst (FrameHalts o (columns_of_lines c.answered) frame_columns seen.held_before seen.held_after pending_end) is (halts (columns_of_lines c.answered) put-so-far) in
+            let halted = subst (LineHalts o (columns_of_lines c.answered) own_columns seen.held_before seen.held_after pending_end) is (halts (columns_of_lines c.answered) put-so-far) in
             frame-failed rose halted.0 halted.1 halted.2 halted.3 halted.4
 
         pub encoded-tight-failed : (held_end : Option (List ℕ)) (pending_end : List ℕ) (why : Halt) → why ≡ halt.TooTight → WriteFailed seen
-            → ((cs : List Column) → HasPut sender o cs seen.held_before held pending → FrameHalts o cs frame_columns seen.held_before held_end pending_end why)
+            → ((cs : List Column) → HasPut sender o cs seen.held_before held pending → LineHalts o cs own_columns seen.held_before held_end pending_end why)
             → BreaksOffBefore held_end pending_end seen.held_after → Encoded o seen WriteFault
         encoded-tight-failed held_end pending_end why is rose halts failed =
-            let halted = subst (FrameHalts o (columns_of_lines c.answered) frame_columns seen.held_before held_end pending_end) is (halts (columns_of_lines c.answered) put-so-far) in
+            let halted = subst (LineHalts o (columns_of_lines c.answered) own_columns seen.held_before held_end pending_end) is (halts (columns_of_lines c.answered) put-so-far) in
             let tight = halted.1 in
-            frame-failed rose halted.0 (tight.column ∷ tight.rest) tight.frame tight.legal (failed seen.held_before (begun_octets o (columns_of_lines c.answered ++ halted.0)) halted.2)
+            frame-failed rose halted.0 (tight.column ∷ tight.rest) tight.parts tight.legal (failed seen.held_before (begun_octets o (columns_of_lines c.answered ++ halted.0)) halted.2)
 
       -- a write failed behind the lines
       behind : (octets rest : List ℕ) → WriteFailed seen → TakesWhereTold seen.left_before seen.left_after octets
           → Begins frame_line_at octets c.answered rest
-          → AppendsFront seen.held_before seen.held_after (sent_octets o (columns_of_lines c.answered)) → Encoded o seen WriteFault
+          → AppendsFront seen.held_before seen.held_after (begun_text c.answered) → Encoded o seen WriteFault
       behind octets rest rose took begins front =
-          (octets, c.answered, rest, rose, took, begins, columns_of_lines c.answered, [], sym (append-nil (columns_of_lines c.answered)), put-so-far.legal, front)
+          (octets, c.answered, rose, inl (rest, took, begins, columns_of_lines c.answered, [], sym (append-nil (columns_of_lines c.answered)), put-so-far.legal, front))
 
       pub encoded-end-failed : Nexts frame_line_at old new mid seen.left_after seen.ended (Ok None) → WriteFailed seen
           → ((cs : List Column) → HasPut sender o cs seen.held_before held pending → AppendsFront seen.held_before seen.held_after (sent_octets o cs)) → Encoded o seen WriteFault
       encoded-end-failed n rose failed =
-          let t = tells frame_line_at begun_text (HasLines sender) old new seen.left_before mid seen.left_after seen.held_before held pending seen.ended (Ok None) c n in
-          behind (c.octets ++ t.0) [] rose (takes-after seen.left_before mid seen.left_after c.octets t.0 c.took t.1.0.source) t.1.2 (failed (columns_of_lines c.answered) put-so-far)
+          let t = tells frame_line_at begun_text (HasLines sender) old new seen.left_before mid seen.left_after seen.held_before held pending seen.ended (Ok None) c n in (
+            c.octets ++ t.0,
+            c.answered,
+            rose,
+            inr (took-all seen mid c.octets t.0 c.took t.1.0, t.1.1, t.1.2, put-so-far.legal, failed (columns_of_lines c.answered) put-so-far),
+          )
 
       pub encoded-fault-failed : (fault : InFault) → Nexts frame_line_at old new mid seen.left_after seen.ended (Err fault) → WriteFailed seen
           → BreaksOffBefore held pending seen.held_after → Encoded o seen WriteFault
@@ -235,7 +240,7 @@ module _ (o : EncodeOptions) where
           let t = tells frame_line_at begun_text (HasLines sender) old new seen.left_before mid seen.left_after seen.held_before held pending seen.ended (Err fault) c n in
           let after = behind-fault frame_line_at (reading c.octets c.answered) t.0 mid seen.left_after seen.ended fault t.1 in
           behind (c.octets ++ t.0) after.0 rose (takes-after seen.left_before mid seen.left_after c.octets t.0 c.took after.1) after.2
-          (begun-front o (columns_of_lines c.answered) seen.held_before seen.held_after (failed seen.held_before (begun_text c.answered) c.wrote))
+          (failed seen.held_before (begun_text c.answered) c.wrote)
 
     -- before the next line is read
     pub encoded-failed : (sender : State) (seen : Seen) (held : Option (List ℕ)) (pending : List ℕ) (lines : ReaderState P)
@@ -244,15 +249,17 @@ module _ (o : EncodeOptions) where
     encoded-failed sender seen held pending lines c rose failed = (
       c.octets,
       c.answered,
-      lines.buffer.unused,
       rose,
-      takes-consumed seen.left_before seen.left_after c.octets c.took,
-      c.stands.unused,
-      columns_of_lines c.answered,
-      [],
-      sym (append-nil (columns_of_lines c.answered)),
-      (so-far sender seen.left_before seen.left_after seen.held_before held pending lines c).legal,
-      begun-front o (columns_of_lines c.answered) seen.held_before seen.held_after (failed seen.held_before (begun_text c.answered) c.wrote),
+      inl (
+        lines.buffer.unused,
+        takes-consumed seen.left_before seen.left_after c.octets c.took,
+        c.stands.unused,
+        columns_of_lines c.answered,
+        [],
+        sym (append-nil (columns_of_lines c.answered)),
+        (so-far sender seen.left_before seen.left_after seen.held_before held pending lines c).legal,
+        failed seen.held_before (begun_text c.answered) c.wrote,
+      ),
     )
 
   -- an earlier count of the writes that failed
@@ -271,19 +278,24 @@ module _ (o : EncodeOptions) where
     is-refused octets lines kind (inl r) = inl r
     is-refused octets lines kind (inr r) = inr (r.0, all-taken octets r.1, r.2, r.3)
 
-    earlier : (status : Status) → Encoded o seen status → Encoded o earlier_seen status
+    broke-off : (octets : List ℕ) (lines : List FrameLine) → BrokeOff o seen octets lines → BrokeOff o earlier_seen octets lines
+    broke-off octets lines (inl b) = inl b
+    broke-off octets lines (inr b) = inr (all-taken octets b.0, b.1, b.2, b.3, b.4)
+
+    earlier : (outcome : Outcome) → Encoded o seen outcome → Encoded o earlier_seen outcome
     earlier Done e = (e.0, e.1, all-taken e.0 e.2, e.3, e.4, e.5, e.6)
-    earlier (Usage cause) e = e
     earlier ReadFault e = (e.0, e.1, e.2, e.3, e.4, has-begun (columns_of_lines e.1) e.5)
-    earlier WriteFault e = (e.0, e.1, e.2, omega (arith, few, e.3), e.4, e.5, e.6, e.7, e.8, e.9, e.10)
-    earlier NoMemory e = record { left = e.left; held = e.held }
+    earlier WriteFault e = (e.0, e.1, omega (arith, few, e.2), broke-off e.0 e.1 e.3)
+    earlier NoMemory e = e
     earlier (BadLine number kind) e = (e.0, e.1, e.2, is-refused e.0 e.1 kind e.3, has-begun (columns_of_lines e.1) e.4)
     earlier (TooTight frame) e = e
     earlier TooLong e = (e.0, e.1, e.2, e.3, e.4, has-begun (columns_of_lines e.1) e.5)
-    earlier (NotesFault instead) e = e
+    earlier (BadHeader bad) e = e
+    earlier (Cut rest) e = e
+    earlier NotAligned e = e
 
-    pub encodes-earlier : (result : Result Status Failed) → Encodes o seen result → Encodes o earlier_seen result
-    encodes-earlier (Ok status) e = earlier status e
+    pub encodes-earlier : (result : Result Outcome Failed) → Encodes o seen result → Encodes o earlier_seen result
+    encodes-earlier (Ok outcome) e = earlier outcome e
     encodes-earlier (Err failure) e = earlier WriteFault e
 
   -- the header or the lead was cut short
@@ -292,13 +304,15 @@ module _ (o : EncodeOptions) where
   encoded-unbegun seen rose same front = (
     [],
     [],
-    [],
     rose,
-    subst (λ left. TakesWhereTold seen.left_before left []) (sym same) (takes-consumed seen.left_before seen.left_before [] (consumes-none seen.left_before)),
-    refl,
-    [],
-    [],
-    no-lines,
-    legal_gaps-nil o.period,
-    begun-front o [] seen.held_before seen.held_after front,
+    inl (
+      [],
+      subst (λ left. TakesWhereTold seen.left_before left []) (sym same) (takes-consumed seen.left_before seen.left_before [] (consumes-none seen.left_before)),
+      refl,
+      [],
+      [],
+      no-lines,
+      legal_gaps-nil o.period,
+      front,
+    ),
   )

@@ -13,13 +13,13 @@ use Rattle.pcs_send.specs.Holding.{State, Stands}
 use Rattle.pcs_send.proofs.Pairs.{wides-zero, whole_pairs-is, columns-periods}
 use Rattle.pcs_send.proofs.Carrying.{pairs_octets-none}
 use Rattle.pcs_send.proofs.Filling.{room_of_pair, lacking_full, lacking_begun}
-use Rattle.pcs_io.specs.Headers.{header_octets}
+use Rattle.pcs_top.specs.Captures.{form_header}
 use Rattle.pcs_io.specs.Octets.{AppendsFront}
 use Rattle.pcs_top.specs.Captures.{begun_octets, sent_octets}
 use Rattle.pcs_top.specs.Sending.{HasSent, HasPut, with_pairs, filled_columns, AreWhole}
-use Rattle.pcs_top.specs.Writing.{Wrote}
-use Rattle.pcs_top.specs.declared.options.EncodeOptions.{EncodeOptions}
-use Rattle.pcs_top.proofs.WritingLemmas.{front-more}
+use Rattle.pcs_drive.specs.Writing.{Wrote}
+use Rattle.pcs_words.specs.declared.command.EncodeOptions.{EncodeOptions}
+use Rattle.pcs_drive.proofs.WritingLemmas.{front-more}
 use Rattle.pcs_top.proofs.Capturing.{capture, capture-is, capture-front}
 
 none-whole : (p : ℕ) → whole_pairs p 0 ≡ 0
@@ -29,10 +29,10 @@ pub are_whole-none : (p : ℕ) → AreWhole p []
 are_whole-none p = ap (columns_before p) (none-whole p) ∙ omega (arith, wides-zero p)
 
 -- the capture of no column is the header
-pub capture-none : (p : ℕ) → capture p [] ≡ header_octets p
-capture-none p =
-    capture-is p [] 0 (omega (arith, wides-zero p)) (omega (arith, wides-zero p, room_of_pair p 0))
-    ∙ ap (λ o. header_octets p ++ o) (pairs_octets-none p []) ∙ append-nil (header_octets p)
+pub capture-none : (f : ℕ) (p : ℕ) → capture f p [] ≡ form_header f p
+capture-none f p =
+    capture-is f p [] 0 (omega (arith, wides-zero p)) (omega (arith, wides-zero p, room_of_pair p 0))
+    ∙ ap (λ o. form_header f p ++ o) (pairs_octets-none p []) ∙ append-nil (form_header f p)
 
 -- whole periods of idles
 pub whole-periods : (p : ℕ) (cs : List Column) (k : ℕ) → 1 ≤ p → AreWhole p cs → with_pairs p cs (k * p) ≡ cs ++ idles (k * room p)
@@ -47,9 +47,9 @@ lead-is o least =
     ∙ sym (append-nil (idles (o.lead * room o.period))) ∙ ap (λ xs. idles (o.lead * room o.period) ++ xs) (sym (kept-nil o.period))
 
 -- the header is put by a sender that has placed nothing
-pub header-sent : (s : State) (p : ℕ) (start held : Option (List ℕ)) (pending octets : List ℕ) → Stands s (sending p) → octets ≡ header_octets p
-    → Wrote start held ([] ++ octets) pending → HasSent s p [] 0 start held pending
-header-sent s p start held pending octets stands is wrote = record {
+pub header-sent : (s : State) (f : ℕ) (p : ℕ) (start held : Option (List ℕ)) (pending octets : List ℕ) → Stands s (sending p) → octets ≡ form_header f p
+    → Wrote start held ([] ++ octets) pending → HasSent s f p [] 0 start held pending
+header-sent s f p start held pending octets stands is wrote = record {
   history = sending p;
   stands = stands;
   period = refl;
@@ -57,14 +57,14 @@ header-sent s p start held pending octets stands is wrote = record {
   debt = refl;
   from = omega (arith, wides-zero p);
   low = omega (arith, wides-zero p, room_of_pair p 0);
-  wrote = subst (λ t. Wrote start held t pending) (is ∙ sym (capture-none p)) wrote;
+  wrote = subst (λ t. Wrote start held t pending) (is ∙ sym (capture-none f p)) wrote;
 }
 
 pub lead-put : (s : State) (o : EncodeOptions) (start held : Option (List ℕ)) (pending : List ℕ) → 1 ≤ o.period
-    → HasSent s o.period (with_pairs o.period [] (o.lead * o.period)) 0 start held pending → HasPut s o [] start held pending
+    → HasSent s o.form o.period (with_pairs o.period [] (o.lead * o.period)) 0 start held pending → HasPut s o [] start held pending
 lead-put s o start held pending least sent = record {
-  sent = subst (λ owed. HasSent s o.period (begun_columns o.period o.lead []) owed start held pending) (sym (debt-nil o.period))
-      (subst (λ xs. HasSent s o.period xs 0 start held pending) (lead-is o least) sent);
+  sent = subst (λ owed. HasSent s o.form o.period (begun_columns o.period o.lead []) owed start held pending) (sym (debt-nil o.period))
+      (subst (λ xs. HasSent s o.form o.period xs 0 start held pending) (lead-is o least) sent);
   legal = legal_gaps-nil o.period;
   least = least;
 }
@@ -74,9 +74,9 @@ pub header-front : (o : EncodeOptions) (start now : Option (List ℕ)) → Appen
 header-front o start now front = front-more start now [] (begun_octets o []) front
 
 pub lead-front : (o : EncodeOptions) (start now : Option (List ℕ)) → 1 ≤ o.period
-    → AppendsFront start now (capture o.period (with_pairs o.period [] (o.lead * o.period)))
+    → AppendsFront start now (capture o.form o.period (with_pairs o.period [] (o.lead * o.period)))
     → AppendsFront start now (begun_octets o [])
-lead-front o start now least front = subst (λ xs. AppendsFront start now (capture o.period xs)) (lead-is o least) front
+lead-front o start now least front = subst (λ xs. AppendsFront start now (capture o.form o.period xs)) (lead-is o least) front
 
 -- the end of a transmission: the last pair begun is filled, and the tail comes behind it
 module _ (p : ℕ) (cs : List Column) where
@@ -110,30 +110,30 @@ unfolding sent sent_columns
 begun-front o cs start now front =
     let begun = begun_columns o.period o.lead cs in
     let more = idles (lacking o.period (length begun)) ++ idles (o.tail * room o.period) in
-    let rest = capture-front o.period begun more in
+    let rest = capture-front o.form o.period begun more in
     subst (AppendsFront start now) (sym rest.1) (front-more start now (begun_octets o cs) rest.0 front)
 
 pub ends-sent : (s : State) (o : EncodeOptions) (cs xs : List Column) (owed : ℕ) (start held : Option (List ℕ)) (pending : List ℕ)
     → xs ≡ sent_columns o.period o.lead o.tail cs
-    → HasSent s o.period xs owed start held pending → Wrote start held (sent_octets o cs) pending
+    → HasSent s o.form o.period xs owed start held pending → Wrote start held (sent_octets o cs) pending
 unfolding sent
-ends-sent s o cs xs owed start held pending is done = subst (λ ys. Wrote start held (capture o.period ys) pending) is done.wrote
+ends-sent s o cs xs owed start held pending is done = subst (λ ys. Wrote start held (capture o.form o.period ys) pending) is done.wrote
 
 pub ends-failed : (o : EncodeOptions) (cs xs : List Column) (start now : Option (List ℕ)) → xs ≡ sent_columns o.period o.lead o.tail cs
-    → AppendsFront start now (capture o.period xs)
+    → AppendsFront start now (capture o.form o.period xs)
     → AppendsFront start now (sent_octets o cs)
 unfolding sent
-ends-failed o cs xs start now is front = subst (λ ys. AppendsFront start now (capture o.period ys)) is front
+ends-failed o cs xs start now is front = subst (λ ys. AppendsFront start now (capture o.form o.period ys)) is front
 
 -- a front of the capture of these columns, and of more
 pub fill-failed : (o : EncodeOptions) (cs xs : List Column) (n : ℕ) (start now : Option (List ℕ))
     → with_pairs o.period xs n ≡ sent_columns o.period o.lead o.tail cs
-    → AppendsFront start now (capture o.period xs) → AppendsFront start now (sent_octets o cs)
+    → AppendsFront start now (capture o.form o.period xs) → AppendsFront start now (sent_octets o cs)
 fill-failed o cs xs n start now is front =
     let more = idles (columns_before o.period (whole_pairs o.period (length xs) + n) - length xs) in
-    let rest = capture-front o.period xs more in
+    let rest = capture-front o.form o.period xs more in
     ends-failed o cs (with_pairs o.period xs n) start now is
-    (subst (AppendsFront start now) (sym rest.1) (front-more start now (capture o.period xs) rest.0 front))
+    (subst (AppendsFront start now) (sym rest.1) (front-more start now (capture o.form o.period xs) rest.0 front))
 
 -- whether a pair was begun
 module _ (s : State) (o : EncodeOptions) (cs : List Column) (start held : Option (List ℕ)) (pending : List ℕ) (put : HasPut s o cs start held pending) where
@@ -171,13 +171,13 @@ module _ (s : State) (o : EncodeOptions) (cs : List Column) (start held : Option
 -- the same, where the number of pairs is told by an equation
 pub lead-put-by : (s : State) (o : EncodeOptions) (count : ℕ) (start held : Option (List ℕ)) (pending : List ℕ) → 1 ≤ o.period
     → count ≡ o.lead * o.period
-    → HasSent s o.period (with_pairs o.period [] count) 0 start held pending → HasPut s o [] start held pending
+    → HasSent s o.form o.period (with_pairs o.period [] count) 0 start held pending → HasPut s o [] start held pending
 lead-put-by s o count start held pending least is sent =
-    lead-put s o start held pending least (subst (λ n. HasSent s o.period (with_pairs o.period [] n) 0 start held pending) is sent)
+    lead-put s o start held pending least (subst (λ n. HasSent s o.form o.period (with_pairs o.period [] n) 0 start held pending) is sent)
 
 pub lead-front-by : (o : EncodeOptions) (count : ℕ) (start now : Option (List ℕ)) → 1 ≤ o.period → count ≡ o.lead * o.period
-    → AppendsFront start now (capture o.period (with_pairs o.period [] count)) → AppendsFront start now (begun_octets o [])
-lead-front-by o count start now least is front = lead-front o start now least (subst (λ n. AppendsFront start now (capture o.period (with_pairs o.period [] n))) is front)
+    → AppendsFront start now (capture o.form o.period (with_pairs o.period [] count)) → AppendsFront start now (begun_octets o [])
+lead-front-by o count start now least is front = lead-front o start now least (subst (λ n. AppendsFront start now (capture o.form o.period (with_pairs o.period [] n))) is front)
 
 -- the last pair, filled, by its two cases
 module _ (old : State) (o : EncodeOptions) (cs : List Column) (start held : Option (List ℕ)) (pending : List ℕ) (put : HasPut old o cs start held pending) where
@@ -198,15 +198,15 @@ module _ (old : State) (o : EncodeOptions) (cs : List Column) (start held : Opti
     | inr not ↦ subst (AreWhole o.period) (filled-none not) (not-begun old o cs start held pending put not)
   ]
 
-  pub none-to-fill : is_begun put.sent.history ≡ false → HasSent old o.period (filled_columns o cs) (debt o.period (reverse cs)) start held pending
-  none-to-fill not = subst (λ xs. HasSent old o.period xs (debt o.period (reverse cs)) start held pending) (filled-none not) put.sent
+  pub none-to-fill : is_begun put.sent.history ≡ false → HasSent old o.form o.period (filled_columns o cs) (debt o.period (reverse cs)) start held pending
+  none-to-fill not = subst (λ xs. HasSent old o.form o.period xs (debt o.period (reverse cs)) start held pending) (filled-none not) put.sent
 
   pub pair-filled : (new : State) (now : Option (List ℕ)) (after : List ℕ) → is_begun put.sent.history ≡ true
-      → HasSent new o.period (with_pairs o.period last_pair 1) (debt o.period (reverse cs)) start now after
-      → HasSent new o.period (filled_columns o cs) (debt o.period (reverse cs)) start now after
-  pair-filled new now after begun sent = subst (λ xs. HasSent new o.period xs (debt o.period (reverse cs)) start now after) (filled-begun begun) sent
+      → HasSent new o.form o.period (with_pairs o.period last_pair 1) (debt o.period (reverse cs)) start now after
+      → HasSent new o.form o.period (filled_columns o cs) (debt o.period (reverse cs)) start now after
+  pair-filled new now after begun sent = subst (λ xs. HasSent new o.form o.period xs (debt o.period (reverse cs)) start now after) (filled-begun begun) sent
 
   pub filling-failed : (now : Option (List ℕ)) → is_begun put.sent.history ≡ true
-      → AppendsFront start now (capture o.period (with_pairs o.period last_pair 1))
-      → AppendsFront start now (capture o.period (filled_columns o cs))
-  filling-failed now begun front = subst (λ xs. AppendsFront start now (capture o.period xs)) (filled-begun begun) front
+      → AppendsFront start now (capture o.form o.period (with_pairs o.period last_pair 1))
+      → AppendsFront start now (capture o.form o.period (filled_columns o cs))
+  filling-failed now begun front = subst (λ xs. AppendsFront start now (capture o.form o.period xs)) (filled-begun begun) front

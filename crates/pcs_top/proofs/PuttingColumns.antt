@@ -22,8 +22,8 @@ use Rattle.pcs_send.proofs.Filling.{group_falls}
 use Rattle.pcs_io.specs.Octets.{AppendsFront}
 use Rattle.pcs_top.specs.Captures.{begun_octets}
 use Rattle.pcs_top.specs.Sending.{HasSent, HasPut}
-use Rattle.pcs_top.specs.Writing.{Wrote, Puts, BreaksOff}
-use Rattle.pcs_top.specs.declared.options.EncodeOptions.{EncodeOptions}
+use Rattle.pcs_drive.specs.Writing.{Wrote, Puts, BreaksOff}
+use Rattle.pcs_words.specs.declared.command.EncodeOptions.{EncodeOptions}
 use Rattle.pcs_top.proofs.Capturing.{capture, capture-same, capture-more, pair-sent}
 
 length-begun : (p lead : ℕ) (cs : List Column) → length (begun_columns p lead cs) ≡ lead * room p + length (kept p cs)
@@ -42,6 +42,9 @@ begun-more p lead cs ds c more = ap (λ xs. idles (lead * room p) ++ xs) more �
 module _ (s : State) (o : EncodeOptions) (cs : List Column) (start held : Option (List ℕ)) (pending : List ℕ) (put : HasPut s o cs start held pending) (c : Column) where
   abbrev p : ℕ
   p = o.period
+
+  abbrev f : ℕ
+  f = o.form
 
   abbrev h : Sending
   h = put.sent.history
@@ -70,10 +73,10 @@ module _ (s : State) (o : EncodeOptions) (cs : List Column) (start held : Option
 
   -- the record of one column more
   put-one : (new : State) (now : Option (List ℕ)) (after : List ℕ)
-      → HasSent new p (begun_columns p o.lead (cs ++ c ∷ [])) (debt p (c ∷ reverse cs)) start now after
+      → HasSent new f p (begun_columns p o.lead (cs ++ c ∷ [])) (debt p (c ∷ reverse cs)) start now after
       → debt p (c ∷ reverse cs) ≤ 128 → HasPut new o (cs ++ c ∷ []) start now after
   put-one new now after sent few = record {
-    sent = subst (λ past. HasSent new p (begun_columns p o.lead (cs ++ c ∷ [])) (debt p past) start now after) (sym latest) sent;
+    sent = subst (λ past. HasSent new f p (begun_columns p o.lead (cs ++ c ∷ [])) (debt p past) start now after) (sym latest) sent;
     legal = legal_gaps-push p cs c put.legal few;
     least = put.least;
   }
@@ -91,7 +94,7 @@ module _ (s : State) (o : EncodeOptions) (cs : List Column) (start held : Option
         debt = omega (arith, put.sent.debt, goes.1);
         from = subst (λ xs. columns_before p h.taken ≤ length xs) (sym same) put.sent.from;
         low = subst (λ xs. length xs < columns_before p (h.taken + 1)) (sym same) put.sent.low;
-        wrote = subst (λ xs. Wrote start held (capture p xs) pending) (sym same) put.sent.wrote;
+        wrote = subst (λ xs. Wrote start held (capture f p xs) pending) (sym same) put.sent.wrote;
       }) (omega (arith, paid, goes.1))
 
   -- the history with the column kept
@@ -116,9 +119,9 @@ module _ (s : State) (o : EncodeOptions) (cs : List Column) (start held : Option
       let at : length kept_one.placed ≡ length (begun_columns p o.lead cs) + 1 = ap length (kept-placed is) ∙ size in
       let end : end_column h ≡ columns_before p (h.taken + 1) = ap (λ q. columns_before q (h.taken + 1)) put.sent.period in
       let low : length (begun_columns p o.lead (cs ++ c ∷ [])) < columns_before p (h.taken + 1) = omega (arith, size, put.sent.low, at, end, not) in
-      let text : capture p (begun_columns p o.lead (cs ++ c ∷ [])) ≡ capture p (begun_columns p o.lead cs) =
-      ap (capture p) (columns-are is)
-      ∙ capture-same p (begun_columns p o.lead cs) (c ∷ []) h.taken put.sent.from (subst (λ xs. length xs < columns_before p (h.taken + 1)) (columns-are is) low) in
+      let text : capture f p (begun_columns p o.lead (cs ++ c ∷ [])) ≡ capture f p (begun_columns p o.lead cs) =
+      ap (capture f p) (columns-are is)
+      ∙ capture-same f p (begun_columns p o.lead cs) (c ∷ []) h.taken put.sent.from (subst (λ xs. length xs < columns_before p (h.taken + 1)) (columns-are is) low) in
       put-one new held pending (record {
         history = kept_one;
         stands = stands;
@@ -141,8 +144,8 @@ module _ (s : State) (o : EncodeOptions) (cs : List Column) (start held : Option
         → ((x : Sending) → Stands mid x → Puts held pending (flat (pair_beats x.period x.placed x.taken)) now after)
         → HasPut new o (cs ++ c ∷ []) start now after
     filled new after takes puts =
-        put-one new now after (subst (λ xs. HasSent new p xs (debt p (c ∷ reverse cs)) start now after) (sym (columns-are is))
-        (pair-sent new kept_one p (begun_columns p o.lead cs) (c ∷ []) (debt p (c ∷ reverse cs)) start held now pending after
+        put-one new now after (subst (λ xs. HasSent new f p xs (debt p (c ∷ reverse cs)) start now after) (sym (columns-are is))
+        (pair-sent new kept_one f p (begun_columns p o.lead cs) (c ∷ []) (debt p (c ∷ reverse cs)) start held now pending after
         (pair_beats kept_one.period kept_one.placed kept_one.taken) refl put.sent.period
         (kept-placed is ∙ columns-are is) put.sent.from put.sent.low (full-size is full) put.sent.wrote refl
         (takes kept_one stands) (puts kept_one stands))) few
@@ -151,11 +154,11 @@ module _ (s : State) (o : EncodeOptions) (cs : List Column) (start held : Option
         → AppendsFront start now (begun_octets o (cs ++ c ∷ []))
     broken failed =
         subst (AppendsFront start now)
-        (ap (λ b. capture p (begun_columns p o.lead cs) ++ flat b)
+        (ap (λ b. capture f p (begun_columns p o.lead cs) ++ flat b)
         (ap₂ (λ q xs. pair_beats q xs h.taken) put.sent.period (kept-placed is ∙ columns-are is))
-        ∙ sym (capture-more p (begun_columns p o.lead cs) (c ∷ []) h.taken put.sent.from put.sent.low (full-size is full))
-        ∙ ap (capture p) (sym (columns-are is)))
-        (failed kept_one stands start (capture p (begun_columns p o.lead cs)) put.sent.wrote)
+        ∙ sym (capture-more f p (begun_columns p o.lead cs) (c ∷ []) h.taken put.sent.from put.sent.low (full-size is full))
+        ∙ ap (capture f p) (sym (columns-are is)))
+        (failed kept_one stands start (capture f p (begun_columns p o.lead cs)) put.sent.wrote)
 
   -- the answer of `put`, by its tests
   data Case : Type 0 where

@@ -1,24 +1,24 @@
 -- What `encode` answers, when, and what stands written.
-use Rattle.std.specs.Prelude.{◌≡◌, ℕ, ◌+◌, ◌^◌, ◌<◌, List, [], ◌∷◌, ◌++◌, length, reverse, Result, Ok, Err}
-use Rattle.mac_columns.specs.Columns.{columns_of}
+use Rattle.std.specs.Prelude.{◌≡◌, ℕ, ◌+◌, ◌^◌, ◌<◌, ◌⊎◌, List, [], ◌∷◌, ◌++◌, length, reverse, Result, Ok, Err}
 use Rattle.mac_columns.specs.declared.column.Column.{Column}
 use Rattle.rate_match.specs.Kept.{debt, HasLegalGaps}
 use Rattle.pcs_io.specs.Octets.{AppendsFront}
 use Rattle.pcs_io.specs.Grammars.{Begins, AreLines, EndOpen}
 use Rattle.pcs_io.specs.FrameLines.{FrameLine, frame_line_at}
 use Rattle.pcs_io.specs.declared.source.Failed.{Failed}
-use Rattle.pcs_top.specs.Seen.{Seen, Took, TookAll, Written, Untouched, ReadFailed, WriteFailed}
-use Rattle.pcs_top.specs.LineCommand.{IsRefused}
-use Rattle.pcs_top.specs.Captures.{columns_of_lines, begun_octets, sent_octets}
-use Rattle.pcs_top.specs.declared.options.EncodeOptions.{EncodeOptions}
-use Rattle.pcs_top.specs.declared.status.Status.{Status}
-use Rattle.pcs_top.specs.declared.status.Status.TheVariants.{Done, Usage, ReadFault, WriteFault, NoMemory, BadLine, TooTight, TooLong, NotesFault}
+use Rattle.pcs_drive.specs.Seen.{Seen, Took, TookAll, Written, ReadFailed, WriteFailed}
+use Rattle.pcs_drive.specs.LineCommand.{IsRefused}
+use Rattle.pcs_top.specs.Captures.{begun_octets, sent_octets}
+use Rattle.pcs_top.specs.LineColumns.{columns_of_line, columns_of_lines}
+use Rattle.pcs_words.specs.declared.command.EncodeOptions.{EncodeOptions}
+use Rattle.pcs_drive.specs.declared.outcome.Outcome.{Outcome}
+use Rattle.pcs_drive.specs.declared.outcome.Outcome.TheVariants.{Done, ReadFault, WriteFault, NoMemory, BadLine, BadHeader, TooTight, Cut, NotAligned, TooLong}
 
--- The columns before a frame, and then these of the frame, have legal gaps, and the next column of the frame brings the debt above 128.
+-- The columns before a line, and then these of the line, have legal gaps, and the next column of the line brings the debt above 128.
 pub record IsTooTight (period : ℕ) (before own all : List Column) : Type 0 where
   pub column : Column
   pub rest : List Column
-  pub frame : all ≡ own ++ column ∷ rest
+  pub parts : all ≡ own ++ column ∷ rest
   pub legal : HasLegalGaps period (before ++ own)
   pub debt : 128 < debt period (column ∷ reverse (before ++ own))
 
@@ -27,34 +27,42 @@ pub record HasBegun (options : EncodeOptions) (seen : Seen) (columns : List Colu
   pub legal : HasLegalGaps options.period columns
   pub written : Written seen (begun_octets options columns)
 
+-- A write failed: a front is written of what a front of the columns had begun, or of the whole transmission where the input has ended.
+abbrev pub BrokeOff : EncodeOptions → Seen → List ℕ → List FrameLine → Type 0
+BrokeOff options seen octets lines =
+    ((rest : List ℕ) × Took seen octets × Begins frame_line_at octets lines rest
+    × (columns left : List Column) × (columns_of_lines lines ≡ columns ++ left) × HasLegalGaps options.period columns
+    × AppendsFront seen.held_before seen.held_after (begun_octets options columns))
+    ⊎ (TookAll seen octets × (length octets < 2 ^ 40) × AreLines frame_line_at octets lines × HasLegalGaps options.period (columns_of_lines lines)
+    × AppendsFront seen.held_before seen.held_after (sent_octets options (columns_of_lines lines)))
+
 -- each answer has its own condition, of the octets taken and the lines in front of them
-abbrev pub Encoded : EncodeOptions → Seen → Status → Type 0
+abbrev pub Encoded : EncodeOptions → Seen → Outcome → Type 0
 Encoded options seen Done =
     (octets : List ℕ) × (lines : List FrameLine) × TookAll seen octets × (length octets < 2 ^ 40) × AreLines frame_line_at octets lines
     × HasLegalGaps options.period (columns_of_lines lines) × Written seen (sent_octets options (columns_of_lines lines))
-Encoded options seen (Usage cause) = ⊥
 Encoded options seen ReadFault =
     (octets : List ℕ) × (lines : List FrameLine) × ReadFailed seen × Took seen octets × EndOpen frame_line_at octets lines
     × HasBegun options seen (columns_of_lines lines)
 Encoded options seen WriteFault =
-    (octets : List ℕ) × (lines : List FrameLine) × (rest : List ℕ) × WriteFailed seen × Took seen octets × Begins frame_line_at octets lines rest
-    × (columns left : List Column) × (columns_of_lines lines ≡ columns ++ left) × HasLegalGaps options.period columns
-    × AppendsFront seen.held_before seen.held_after (sent_octets options columns)
-Encoded options seen NoMemory = Untouched seen
+    (octets : List ℕ) × (lines : List FrameLine) × WriteFailed seen × BrokeOff options seen octets lines
+Encoded options seen NoMemory = ⊥
 Encoded options seen (BadLine number kind) =
     (octets : List ℕ) × (lines : List FrameLine) × (number ≡ length lines + 1) × IsRefused frame_line_at seen octets lines kind
     × HasBegun options seen (columns_of_lines lines)
 Encoded options seen (TooTight frame) =
     (octets : List ℕ) × (lines : List FrameLine) × (line : FrameLine) × (rest : List ℕ) × (own : List Column) × (frame ≡ length lines + 1)
     × Took seen octets × Begins frame_line_at octets (lines ++ line ∷ []) rest
-    × IsTooTight options.period (columns_of_lines lines) own (columns_of line.frame line.gap)
+    × IsTooTight options.period (columns_of_lines lines) own (columns_of_line line)
     × Written seen (begun_octets options (columns_of_lines lines ++ own))
 Encoded options seen TooLong =
     (octets : List ℕ) × (lines : List FrameLine) × Took seen octets × (length octets ≡ 2 ^ 40) × EndOpen frame_line_at octets lines
     × HasBegun options seen (columns_of_lines lines)
-Encoded options seen (NotesFault instead) = ⊥
+Encoded options seen (BadHeader bad) = ⊥
+Encoded options seen (Cut rest) = ⊥
+Encoded options seen NotAligned = ⊥
 
 -- where a write fails, the answer is that
-abbrev pub Encodes : EncodeOptions → Seen → Result Status Failed → Type 0
-Encodes options seen (Ok status) = Encoded options seen status
+abbrev pub Encodes : EncodeOptions → Seen → Result Outcome Failed → Type 0
+Encodes options seen (Ok outcome) = Encoded options seen outcome
 Encodes options seen (Err failed) = Encoded options seen WriteFault

@@ -1,41 +1,68 @@
 -- The answers of the top call.
-use Rattle.std.specs.Prelude.{◌≡◌, ◌⊎◌, ℕ, ◌^◌, ◌<◌, List, length, Option, Some, None}
+use Rattle.std.specs.Prelude.{◌≡◌, ◌⊎◌, ℕ, ◌^◌, ◌<◌, true, List, length, Some, Result, Ok, Err}
+use Rattle.pcs_watch.specs.Watching.{Seen as Watched}
 use Rattle.rate_match.specs.Kept.{HasLegalGaps}
 use Rattle.pcs_io.specs.Faults.{Rose}
 use Rattle.pcs_io.specs.Grammars.{AreLines}
 use Rattle.pcs_io.specs.FrameLines.{FrameLine, frame_line_at}
 use Rattle.pcs_io.specs.BlockLines.{block_line_at}
+use Rattle.pcs_io.specs.Captures.{OpensWhole}
 use Rattle.pcs_io.specs.declared.block_lines.BlockLine.{BlockLine}
-use Rattle.pcs_top.specs.Seen.{Seen, Untouched, ReadFailed, WriteFailed}
+use Rattle.pcs_io.specs.declared.header.Header.{Header}
+use Rattle.pcs_words.specs.declared.command.Command.{Command}
+use Rattle.pcs_words.specs.declared.command.Command.TheVariants as command
+use Rattle.pcs_words.specs.declared.refusal.Refusal.{Refusal}
+use Rattle.pcs_words.specs.declared.refusal.Refusal.TheVariants.{Memory, Usage as Refused}
+use Rattle.pcs_words.specs.declared.refusal.Cause.TheVariants.{Words}
+use Rattle.pcs_drive.specs.Seen.{Seen, Untouched, ReadFailed, WriteFailed}
+use Rattle.pcs_drive.specs.LineCommand.{Converted, OrNoMemory}
+use Rattle.pcs_drive.specs.CaptureCommand.{CaptureText, FromCapture}
 use Rattle.pcs_top.specs.Notes.{Heard, Noted}
 use Rattle.pcs_top.specs.Texts.{block_text, unblock_text}
-use Rattle.pcs_top.specs.LineCommand.{Converted}
-use Rattle.pcs_top.specs.Captures.{columns_of_lines}
+use Rattle.pcs_top.specs.LineColumns.{columns_of_lines}
 use Rattle.pcs_top.specs.Encoding.{Encoded}
-use Rattle.pcs_top.specs.declared.command.Command.{Command}
-use Rattle.pcs_top.specs.declared.command.Command.TheVariants as command
-use Rattle.pcs_top.specs.declared.status.Cause.TheVariants.{Words}
+use Rattle.pcs_top.specs.Decoding.{decoded}
+use Rattle.pcs_top.specs.Reporting.{reported}
+use Rattle.pcs_top.specs.Migrating.{migrated}
+use Rattle.pcs_top.specs.Statuses.{ByOutcome}
 use Rattle.pcs_top.specs.declared.status.Status.{Status}
 use Rattle.pcs_top.specs.declared.status.Status.TheVariants.{Done, Usage, NoMemory}
 
--- words that are no command are refused, and nothing is done; else the command answers
-abbrev pub Answers : Option Command → Seen → Status → Type 0
-Answers None seen outcome = (outcome ≡ Usage Words) × Untouched seen
-Answers (Some command.Blocks) seen outcome = Converted frame_line_at block_text seen outcome
-Answers (Some command.Unblock) seen outcome = Converted block_line_at unblock_text seen outcome
-Answers (Some (command.Encode options)) seen outcome = Encoded options seen outcome
+-- `watchers` is what is seen of the watchers that the call was given. Words that are refused do nothing, nor do those of a command that isn't built yet; else the command answers.
+abbrev pub Answers : List Watched → Result Command Refusal → Seen → Status → Type 0
+Answers watchers (Err Memory) seen status = (status ≡ NoMemory) × Untouched seen
+Answers watchers (Err (Refused cause)) seen status = (status ≡ Usage cause) × Untouched seen
+Answers watchers (Ok command.Blocks) seen status = ByOutcome (OrNoMemory (Converted frame_line_at block_text) seen) status
+Answers watchers (Ok command.Unblock) seen status = ByOutcome (OrNoMemory (Converted block_line_at unblock_text) seen) status
+Answers watchers (Ok (command.Encode options)) seen status = ByOutcome (OrNoMemory (Encoded options) seen) status
+Answers watchers (Ok (command.Decode options)) seen status = ByOutcome (FromCapture (decoded options.skew) seen) status
+Answers watchers (Ok (command.Report options)) seen status = ByOutcome (FromCapture (reported watchers options.skew) seen) status
+Answers watchers (Ok (command.Migrate options)) seen status = ByOutcome (FromCapture (migrated options.skew) seen) status
+Answers watchers (Ok other) seen status = (status ≡ Usage Words) × Untouched seen
 
--- the outcome of the command, and the status with its line on the notes
-abbrev pub Runs : Option Command → Seen → Heard → Status → Type 0
-Runs words seen heard status = (outcome : Status) × Answers words seen outcome × Noted outcome heard status
+-- the words are performed, or there was no memory to read them
+abbrev pub Performs : List Watched → Result Command Refusal → Seen → Status → Type 0
+Performs watchers words seen status = Answers watchers words seen status ⊎ ((status ≡ NoMemory) × Untouched seen)
 
--- the input is in the grammar of the command, and for `encode` its columns have legal gaps
-abbrev pub InGrammar : Option Command → List ℕ → Type 0
-InGrammar None octets = ⊥
-InGrammar (Some command.Blocks) octets = (lines : List FrameLine) × AreLines frame_line_at octets lines
-InGrammar (Some command.Unblock) octets = (lines : List BlockLine) × AreLines block_line_at octets lines
-InGrammar (Some (command.Encode options)) octets =
+-- the status of the command, and the one that is answered with its line on the notes
+abbrev pub Runs : List Watched → Result Command Refusal → Seen → Heard → Status → Type 0
+Runs watchers words seen heard status = (outcome : Status) × Performs watchers words seen outcome × Noted outcome heard status
+
+-- a header and whole beats, whose lanes are aligned where the command asks for that
+abbrev pub IsWholeCapture : CaptureText → List ℕ → Type 0
+IsWholeCapture text octets =
+    (header : Header) × (beats : List (List ℕ)) × OpensWhole octets header beats 0 × (text.is_aligned header beats ≡ true)
+
+-- The input is in the grammar of the command, and for `encode` its columns have legal gaps.
+abbrev pub InGrammar : List Watched → Result Command Refusal → List ℕ → Type 0
+InGrammar watchers (Ok command.Blocks) octets = (lines : List FrameLine) × AreLines frame_line_at octets lines
+InGrammar watchers (Ok command.Unblock) octets = (lines : List BlockLine) × AreLines block_line_at octets lines
+InGrammar watchers (Ok (command.Encode options)) octets =
     (lines : List FrameLine) × AreLines frame_line_at octets lines × HasLegalGaps options.period (columns_of_lines lines)
+InGrammar watchers (Ok (command.Decode options)) octets = IsWholeCapture (decoded options.skew) octets
+InGrammar watchers (Ok (command.Report options)) octets = IsWholeCapture (reported watchers options.skew) octets
+InGrammar watchers (Ok (command.Migrate options)) octets = IsWholeCapture (migrated options.skew) octets
+InGrammar watchers words octets = ⊥
 
 -- no read and no write failed
 pub record NothingFailed (seen : Seen) (heard : Heard) : Type 0 where
@@ -44,6 +71,6 @@ pub record NothingFailed (seen : Seen) (heard : Heard) : Type 0 where
   pub notes : ¬ Rose heard.writes_before heard.writes_after
 
 -- an input in the grammar is turned into its text, unless something fails or there is no memory
-abbrev pub IsComplete : Option Command → Seen → Heard → Status → Type 0
-IsComplete words seen heard status = (octets rest : List ℕ) → seen.left_before ≡ Some octets → seen.left_after ≡ Some rest
-    → InGrammar words octets → length octets < 2 ^ 40 → NothingFailed seen heard → (status ≡ Done) ⊎ (status ≡ NoMemory)
+abbrev pub IsComplete : List Watched → Result Command Refusal → Seen → Heard → Status → Type 0
+IsComplete watchers words seen heard status = (octets rest : List ℕ) → seen.left_before ≡ Some octets → seen.left_after ≡ Some rest
+    → InGrammar watchers words octets → length octets < 2 ^ 40 → NothingFailed seen heard → (status ≡ Done) ⊎ (status ≡ NoMemory)

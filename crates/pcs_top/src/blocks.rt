@@ -1,43 +1,47 @@
 // Frame lines become block lines.
-ghost use Rattle.std.specs.Prelude.{◌≡◌, ◌≤◌, ◌^◌, [], length, IfOk, OnOk, OnErr};
+ghost use Rattle.std.specs.Prelude.{◌≡◌, ◌≤◌, ◌^◌, [], length, OnOk, OnErr};
 ghost use Rattle.pcs_io.specs.Faults.{HasCause};
 ghost use Rattle.pcs_io.specs.FrameLines.{frame_line_at};
 ghost use Rattle.pcs_io.specs.Histories.{Stands, opened};
-ghost use Rattle.pcs_top.specs.Seen.{seen};
-ghost use Rattle.pcs_top.specs.LineCommand.{Converted, Converts};
+ghost use Rattle.pcs_drive.specs.Seen.{seen};
+ghost use Rattle.pcs_drive.specs.LineCommand.{Converted, Converts, OrNoMemory};
 ghost use Rattle.pcs_top.specs.Texts.{block_line, block_text, column_text};
-ghost use Rattle.pcs_top.specs.Writing.{Puts, BreaksOff};
-ghost use Rattle.mac_columns.specs.Columns.{columns_of};
+ghost use Rattle.pcs_drive.specs.Writing.{Puts, BreaksOff};
+ghost use Rattle.pcs_io.specs.FrameAnswers.{said, FitsLine};
+ghost use Rattle.pcs_top.specs.LineColumns.{columns_of_line};
+ghost use Rattle.mac_columns.specs.Columns.{columns_of, columns_of_set};
 
-use crate::output::Output;
-use crate::{LIMIT, Status};
 use block66::{Block, encode};
-use mac_columns::FrameColumns;
-use pcs_io::{Failed, Lines, Sink, Source};
-use std::alloc::{AllocError, Global};
+use mac_columns::{FrameColumns, SetColumns};
+use pcs_drive::{LIMIT, Outcome, Output};
+use pcs_io::{Failed, Line, Lines, Sink, Source};
+use std::alloc::Global;
 
 // The octets of a block line.
 const LINE: usize = 20;
 
 /// Reads frame lines and writes their block lines.
-pub fn blocks<R: Source, W: Sink>(alloc: Global, source: &mut R, sink: &mut W) -> Status
-    ensures { Converted frame_line_at block_text
+pub fn blocks<R: Source, W: Sink>(alloc: Global, source: &mut R, sink: &mut W) -> Outcome
+    ensures { OrNoMemory (Converted frame_line_at block_text)
         (seen R.left R.ended R.faults W.held W.faults source.old source.new sink.old sink.new) result }
 {
-    match open(alloc) {
-        Ok((mut lines, mut output)) => match convert(&mut lines, &mut output, source, sink) {
-            Ok(status) => status,
-            Err(Failed) => Status::WriteFault,
-        },
-        Err(_) => Status::NoMemory,
+    match Lines::open(alloc, LIMIT) {
+        Ok(mut lines) => blocks_opened(&mut lines, source, sink),
+        Err(_) => Outcome::NoMemory,
     }
 }
 
-/// All the memory that a command on frame lines needs.
-pub(crate) fn open(alloc: Global) -> Result<(Lines, Output), AllocError>
-    ensures { IfOk result (λ all. Stands frame_line_at all.0 (opened (2 ^ 40)) × (all.1 ≡ [])) }
+/// The same with a reader that was opened and had no other call. It takes no memory.
+pub fn blocks_opened<R: Source, W: Sink>(lines: &mut Lines, source: &mut R, sink: &mut W) -> Outcome
+    requires { Stands frame_line_at lines.old (opened (2 ^ 40)) }
+    ensures { Converted frame_line_at block_text
+        (seen R.left R.ended R.faults W.held W.faults source.old source.new sink.old sink.new) result }
 {
-    Ok((Lines::open(alloc, LIMIT)?, Output::open(alloc)?))
+    let mut output = Output::new();
+    match convert(lines, &mut output, source, sink) {
+        Ok(outcome) => outcome,
+        Err(Failed) => Outcome::WriteFault,
+    }
 }
 
 // Reads lines and gathers their text, which is written before the source is read again and at the
@@ -47,7 +51,7 @@ fn convert<R: Source, W: Sink>(
     output: &mut Output,
     source: &mut R,
     sink: &mut W,
-) -> Result<Status, Failed>
+) -> Result<Outcome, Failed>
     requires opened { Stands frame_line_at lines.old (opened (2 ^ 40)) }
     requires empty { output.old ≡ [] }
     ensures { Converts frame_line_at block_text
@@ -56,16 +60,29 @@ fn convert<R: Source, W: Sink>(
     loop {
         output.release(sink, lines.holds_line())?;
         match lines.next(source) {
-            Ok(Some(line)) => put_frame(output, sink, line.frame, line.gap)?,
+            Ok(Some(line)) => put_line(output, sink, line)?,
             Ok(None) => {
                 output.flush(sink)?;
-                return Ok(Status::Done);
+                return Ok(Outcome::Done);
             }
             Err(fault) => {
                 output.flush(sink)?;
-                return Ok(Status::from(fault));
+                return Ok(Outcome::from(fault));
             }
         }
+    }
+}
+
+// Puts the block lines of a line's columns.
+fn put_line<W: Sink>(output: &mut Output, sink: &mut W, line: Line<'_>) -> Result<(), Failed>
+    requires { FitsLine line }
+    ensures ok { OnOk result (Puts (W.held sink.old) output.old (column_text (columns_of_line (said line.entry))) (W.held sink.new) output.new) }
+    ensures err { OnErr result (BreaksOff (W.held sink.old) output.old (column_text (columns_of_line (said line.entry))) (W.held sink.new)) }
+    ensures cause { HasCause (W.faults sink.old) (W.faults sink.new) result }
+{
+    match line {
+        Line::Frame { gap, frame } => put_frame(output, sink, frame, gap),
+        Line::Set { gap, octets } => put_set(output, sink, octets, gap),
     }
 }
 
@@ -83,6 +100,25 @@ fn put_frame<W: Sink>(
 {
     output.make_room(sink, LINE * (2 + frame.len() / 8 + gap as usize))?;
     let mut columns = FrameColumns::new(frame, gap);
+    while let Some(column) = columns.next() {
+        output.put(sink, &line_of(&encode(&column)))?;
+    }
+    Ok(())
+}
+
+// Puts the block lines of an ordered set and its gap.
+fn put_set<W: Sink>(
+    output: &mut Output,
+    sink: &mut W,
+    octets: [u8; 3],
+    gap: u32,
+) -> Result<(), Failed>
+    ensures ok { OnOk result (Puts (W.held sink.old) output.old (column_text (columns_of_set octets gap)) (W.held sink.new) output.new) }
+    ensures err { OnErr result (BreaksOff (W.held sink.old) output.old (column_text (columns_of_set octets gap)) (W.held sink.new)) }
+    ensures cause { HasCause (W.faults sink.old) (W.faults sink.new) result }
+{
+    output.make_room(sink, LINE * (1 + gap as usize))?;
+    let mut columns = SetColumns::new(octets, gap);
     while let Some(column) = columns.next() {
         output.put(sink, &line_of(&encode(&column)))?;
     }

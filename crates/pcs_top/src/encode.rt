@@ -1,31 +1,33 @@
 // Frame lines become a capture.
 ghost use Rattle.std.specs.Prelude.{◌≡◌, ◌<◌, ◌≤◌, ◌+◌, ◌-◌, ◌^◌, ◌∷◌, ◌++◌, [], ℕ, List, Option, length, reverse, true, false, IfOk, OnOk, OnErr, IfErr, IsErrOf};
-ghost use Rattle.bit_lists.specs.Places.{flat};
 ghost use Rattle.mac_columns.specs.declared.column.Column.{Column};
-ghost use Rattle.mac_columns.specs.Columns.{columns_of};
+ghost use Rattle.mac_columns.specs.Columns.{columns_of, columns_of_set};
 ghost use Rattle.rate_match.specs.Kept.{debt};
 ghost use Rattle.pcs_io.specs.Faults.{HasCause, Rose};
 ghost use Rattle.pcs_io.specs.Octets.{AppendsFront};
 ghost use Rattle.pcs_io.specs.FrameLines.{frame_line_at};
+ghost use Rattle.pcs_io.specs.FrameAnswers.{said, FitsLine};
+ghost use Rattle.pcs_top.specs.LineColumns.{columns_of_line};
 ghost use Rattle.pcs_io.specs.Histories.{Stands as ReaderStands, opened};
 ghost use Rattle.pcs_send.specs.Transmission.{idles, begun_columns, carried, pair_beats};
 ghost use Rattle.pcs_send.specs.Histories.{Sending, sending, end_column, after_take};
 ghost use Rattle.pcs_send.specs.Holding.{Stands, is_ready};
-ghost use Rattle.pcs_top.specs.declared.options.EncodeOptions.{EncodeOptions};
+ghost use Rattle.pcs_words.specs.declared.command.EncodeOptions.{EncodeOptions};
 ghost use Rattle.pcs_top.specs.declared.encode.Halt.TheVariants as Halt;
-ghost use Rattle.pcs_top.specs.Seen.{seen, since};
-ghost use Rattle.pcs_top.specs.Captures.{capture_octets, begun_octets, sent_octets};
+ghost use Rattle.pcs_drive.specs.LineCommand.{OrNoMemory};
+ghost use Rattle.pcs_drive.specs.Seen.{seen, since};
+ghost use Rattle.pcs_top.specs.Captures.{capture_octets, form_header, begun_octets, sent_octets};
 ghost use Rattle.pcs_top.specs.Encoding.{Encoded, Encodes};
-ghost use Rattle.pcs_top.specs.Sending.{HasSent, HasPut, ColumnHalts, FrameHalts, with_pairs, filled_columns, AreWhole};
-ghost use Rattle.pcs_top.specs.Words.{AreInRange};
-ghost use Rattle.pcs_top.specs.Writing.{Puts, BreaksOff, Wrote};
+ghost use Rattle.pcs_top.specs.Sending.{HasSent, HasPut, ColumnHalts, LineHalts, with_pairs, filled_columns, AreWhole};
+ghost use Rattle.pcs_words.specs.Commands.{IsEncode};
+ghost use Rattle.pcs_drive.specs.Writing.{Puts, BreaksOffBefore, Wrote};
 
-use crate::blocks::open;
-use crate::output::Output;
-use crate::{EncodeOptions, Status};
-use mac_columns::{Column, FrameColumns};
-use pcs_io::{Failed, Header, Lines, Sink, Source, write_header};
-use pcs_send::{PairOctets, Put, Sender, TooTight};
+use crate::idle_pairs::{put_idle_pair, put_idle_pairs, put_pair};
+use mac_columns::{Column, FrameColumns, SetColumns};
+use pcs_drive::{LIMIT, Outcome, Output};
+use pcs_io::{Failed, Header, Line, Lines, Sink, Source, most_skew, write_header, write_header2};
+use pcs_send::{Put, Sender, TooTight};
+use pcs_words::EncodeOptions;
 use std::alloc::Global;
 
 /// Why no further column is put: the debt would pass its limit, or a write failed.
@@ -49,87 +51,6 @@ impl From<Failed> for Halt {
     fn from(_failure: Failed) -> Halt {
         Halt::Failed
     }
-}
-
-// Puts the beats of a pair.
-fn put_beats<W: Sink>(output: &mut Output, sink: &mut W, pair: &PairOctets) -> Result<(), Failed>
-    ensures ok { OnOk result (Puts (W.held sink.old) output.old (flat pair.now) (W.held sink.new) output.new) }
-    ensures err { OnErr result (BreaksOff (W.held sink.old) output.old (flat pair.now) (W.held sink.new)) }
-    ensures cause { HasCause (W.faults sink.old) (W.faults sink.new) result }
-{
-    for beat in pair {
-        output.put(sink, beat)?;
-    }
-    Ok(())
-}
-
-// Puts the beats of the pair that is full. Not inlined, so that its array is no local of a loop over
-// columns.
-#[inline(never)]
-fn put_pair<W: Sink>(sender: &mut Sender, output: &mut Output, sink: &mut W) -> Result<(), Failed>
-    requires { is_ready sender.old ≡ true }
-    ensures waits { is_ready sender.new ≡ false }
-    ensures stands { (h : Sending) → Stands sender.old h → Stands sender.new (after_take h) }
-    ensures ok { OnOk result ((h : Sending) → Stands sender.old h
-        → Puts (W.held sink.old) output.old (flat (pair_beats h.period h.placed h.taken)) (W.held sink.new) output.new) }
-    ensures err { OnErr result ((h : Sending) → Stands sender.old h
-        → BreaksOff (W.held sink.old) output.old (flat (pair_beats h.period h.placed h.taken)) (W.held sink.new)) }
-    ensures cause { HasCause (W.faults sink.old) (W.faults sink.new) result }
-{
-    put_beats(output, sink, &sender.take_pair())
-}
-
-// Fills the pair in hand with idles.
-fn fill(sender: &mut Sender)
-    ensures { (h : Sending) → Stands sender.old h
-        → Stands sender.new (record h { placed = h.placed ++ idles (end_column h - length h.placed) }) }
-{
-    for i in 0..160u32 {
-        if !sender.ready() {
-            sender.idle();
-        }
-    }
-}
-
-// Puts a pair that is filled with idles.
-fn put_idle_pair<W: Sink>(
-    sender: &mut Sender,
-    output: &mut Output,
-    sink: &mut W,
-) -> Result<(), Failed>
-    ensures waits { OnOk result (is_ready sender.new ≡ false) }
-    ensures ok { OnOk result ((p : ℕ) (cs : List Column) (owed : ℕ) (start : Option (List ℕ)) → HasSent sender.old p cs owed start (W.held sink.old) output.old
-        → HasSent sender.new p (with_pairs p cs 1) owed start (W.held sink.new) output.new) }
-    ensures err { OnErr result ((p : ℕ) (cs : List Column) (owed : ℕ) (start : Option (List ℕ)) → HasSent sender.old p cs owed start (W.held sink.old) output.old
-        → AppendsFront start (W.held sink.new) (capture_octets p (carried p (with_pairs p cs 1)))) }
-    ensures cause { HasCause (W.faults sink.old) (W.faults sink.new) result }
-{
-    fill(sender);
-    if sender.ready() {
-        put_pair(sender, output, sink)?;
-    }
-    Ok(())
-}
-
-// Puts so many pairs that are filled with idles.
-fn put_idle_pairs<W: Sink>(
-    sender: &mut Sender,
-    output: &mut Output,
-    sink: &mut W,
-    count: u32,
-) -> Result<(), Failed>
-    requires waits { is_ready sender.old ≡ false }
-    ensures waits { OnOk result (is_ready sender.new ≡ false) }
-    ensures ok { OnOk result ((p : ℕ) (cs : List Column) (owed : ℕ) (start : Option (List ℕ)) → HasSent sender.old p cs owed start (W.held sink.old) output.old
-        → AreWhole p cs → HasSent sender.new p (with_pairs p cs count) owed start (W.held sink.new) output.new) }
-    ensures err { OnErr result ((p : ℕ) (cs : List Column) (owed : ℕ) (start : Option (List ℕ)) → HasSent sender.old p cs owed start (W.held sink.old) output.old
-        → AreWhole p cs → AppendsFront start (W.held sink.new) (capture_octets p (carried p (with_pairs p cs count)))) }
-    ensures cause { HasCause (W.faults sink.old) (W.faults sink.new) result }
-{
-    for i in 0..count {
-        put_idle_pair(sender, output, sink)?;
-    }
-    Ok(())
 }
 
 // Puts a column of the input, and the beats of the pair that it fills.
@@ -157,6 +78,31 @@ fn put_column<W: Sink>(
     Ok(())
 }
 
+// Puts the columns of a line.
+fn put_line<W: Sink>(
+    line: Line<'_>,
+    sender: &mut Sender,
+    output: &mut Output,
+    sink: &mut W,
+) -> Result<(), Halt>
+    requires fits { FitsLine line }
+    requires waits { is_ready sender.old ≡ false }
+    ensures waits { OnOk result (is_ready sender.new ≡ false) }
+    ensures ok { OnOk result ((o : EncodeOptions) (cs : List Column) (start : Option (List ℕ))
+        → HasPut sender.old o cs start (W.held sink.old) output.old
+        → HasPut sender.new o (cs ++ columns_of_line (said line.entry)) start (W.held sink.new) output.new) }
+    ensures err { IfErr result (λ halt. (o : EncodeOptions) (cs : List Column) (start : Option (List ℕ))
+        → HasPut sender.old o cs start (W.held sink.old) output.old
+        → LineHalts o cs (columns_of_line (said line.entry)) start (W.held sink.new) output.new halt) }
+    ensures later { W.faults sink.old ≤ W.faults sink.new }
+    ensures failed { IsErrOf result Halt.Failed → Rose (W.faults sink.old) (W.faults sink.new) }
+{
+    match line {
+        Line::Frame { gap, frame } => put_frame(frame, gap, sender, output, sink),
+        Line::Set { gap, octets } => put_set(octets, gap, sender, output, sink),
+    }
+}
+
 // Puts the columns of a frame and its gap.
 fn put_frame<W: Sink>(
     frame: &[u8],
@@ -173,7 +119,7 @@ fn put_frame<W: Sink>(
         → HasPut sender.new o (cs ++ columns_of frame.now gap) start (W.held sink.new) output.new) }
     ensures err { IfErr result (λ halt. (o : EncodeOptions) (cs : List Column) (start : Option (List ℕ))
         → HasPut sender.old o cs start (W.held sink.old) output.old
-        → FrameHalts o cs (columns_of frame.now gap) start (W.held sink.new) output.new halt) }
+        → LineHalts o cs (columns_of frame.now gap) start (W.held sink.new) output.new halt) }
     ensures later { W.faults sink.old ≤ W.faults sink.new }
     ensures failed { IsErrOf result Halt.Failed → Rose (W.faults sink.old) (W.faults sink.new) }
 {
@@ -184,6 +130,61 @@ fn put_frame<W: Sink>(
     Ok(())
 }
 
+// Puts the columns of an ordered set and its gap.
+fn put_set<W: Sink>(
+    octets: [u8; 3],
+    gap: u32,
+    sender: &mut Sender,
+    output: &mut Output,
+    sink: &mut W,
+) -> Result<(), Halt>
+    requires waits { is_ready sender.old ≡ false }
+    ensures waits { OnOk result (is_ready sender.new ≡ false) }
+    ensures ok { OnOk result ((o : EncodeOptions) (cs : List Column) (start : Option (List ℕ))
+        → HasPut sender.old o cs start (W.held sink.old) output.old
+        → HasPut sender.new o (cs ++ columns_of_set octets gap) start (W.held sink.new) output.new) }
+    ensures err { IfErr result (λ halt. (o : EncodeOptions) (cs : List Column) (start : Option (List ℕ))
+        → HasPut sender.old o cs start (W.held sink.old) output.old
+        → LineHalts o cs (columns_of_set octets gap) start (W.held sink.new) output.new halt) }
+    ensures later { W.faults sink.old ≤ W.faults sink.new }
+    ensures failed { IsErrOf result Halt.Failed → Rose (W.faults sink.old) (W.faults sink.new) }
+{
+    let mut columns = SetColumns::new(octets, gap);
+    while let Some(column) = columns.next() {
+        put_column(column, sender, output, sink)?;
+    }
+    Ok(())
+}
+
+// Puts the header. In form 2 its skew is the greatest that the period allows.
+fn put_header<W: Sink>(
+    options: &EncodeOptions,
+    output: &mut Output,
+    sink: &mut W,
+) -> Result<(), Failed>
+    requires { IsEncode options.now }
+    ensures ok { OnOk result (Puts (W.held sink.old) output.old (form_header options.now.form options.now.period) (W.held sink.new) output.new) }
+    ensures err { OnErr result (BreaksOffBefore (W.held sink.old) output.old (W.held sink.new)) }
+    ensures cause { HasCause (W.faults sink.old) (W.faults sink.new) result }
+{
+    let period = options.period;
+    let skew = most_skew(period);
+    if options.form == 1 {
+        let header = Header {
+            version: 1,
+            period,
+            skew,
+        };
+        return output.put(sink, &write_header(&header));
+    }
+    let header = Header {
+        version: 2,
+        period,
+        skew,
+    };
+    output.put(sink, &write_header2(&header))
+}
+
 // Puts the header and the lead.
 fn begin<W: Sink>(
     options: &EncodeOptions,
@@ -191,7 +192,7 @@ fn begin<W: Sink>(
     output: &mut Output,
     sink: &mut W,
 ) -> Result<(), Failed>
-    requires ranges { AreInRange options.now }
+    requires ranges { IsEncode options.now }
     requires waits { is_ready sender.old ≡ false }
     requires made { Stands sender.old (sending options.now.period) }
     ensures waits { OnOk result (is_ready sender.new ≡ false) }
@@ -201,16 +202,8 @@ fn begin<W: Sink>(
         → AppendsFront start (W.held sink.new) (begun_octets options.now [])) }
     ensures cause { HasCause (W.faults sink.old) (W.faults sink.new) result }
 {
-    let header = Header {
-        period: options.period,
-    };
-    output.put(sink, &write_header(&header))?;
-    put_idle_pairs(
-        sender,
-        output,
-        sink,
-        options.lead * u32::from(options.period),
-    )
+    put_header(options, output, sink)?;
+    put_idle_pairs(sender, output, sink, options.lead * options.period)
 }
 
 // Fills the last pair begun, if there is one, and puts it.
@@ -219,10 +212,10 @@ fn fill_last<W: Sink>(sender: &mut Sender, output: &mut Output, sink: &mut W) ->
     ensures waits { OnOk result (is_ready sender.new ≡ false) }
     ensures ok { OnOk result ((o : EncodeOptions) (cs : List Column) (start : Option (List ℕ))
         → HasPut sender.old o cs start (W.held sink.old) output.old
-        → HasSent sender.new o.period (filled_columns o cs) (debt o.period (reverse cs)) start (W.held sink.new) output.new) }
+        → HasSent sender.new o.form o.period (filled_columns o cs) (debt o.period (reverse cs)) start (W.held sink.new) output.new) }
     ensures err { OnErr result ((o : EncodeOptions) (cs : List Column) (start : Option (List ℕ))
         → HasPut sender.old o cs start (W.held sink.old) output.old
-        → AppendsFront start (W.held sink.new) (capture_octets o.period (carried o.period (filled_columns o cs)))) }
+        → AppendsFront start (W.held sink.new) (capture_octets o.form o.period (carried o.period (filled_columns o cs)))) }
     ensures cause { HasCause (W.faults sink.old) (W.faults sink.new) result }
 {
     if !sender.begun() {
@@ -238,7 +231,7 @@ fn finish<W: Sink>(
     output: &mut Output,
     sink: &mut W,
 ) -> Result<(), Failed>
-    requires ranges { AreInRange options.now }
+    requires ranges { IsEncode options.now }
     requires waits { is_ready sender.old ≡ false }
     ensures ok { OnOk result ((cs : List Column) (start : Option (List ℕ))
         → HasPut sender.old options.now cs start (W.held sink.old) output.old
@@ -249,12 +242,7 @@ fn finish<W: Sink>(
     ensures cause { HasCause (W.faults sink.old) (W.faults sink.new) result }
 {
     fill_last(sender, output, sink)?;
-    put_idle_pairs(
-        sender,
-        output,
-        sink,
-        options.tail * u32::from(options.period),
-    )
+    put_idle_pairs(sender, output, sink, options.tail * options.period)
 }
 
 // Reads lines and puts their columns. What is put is written before the source is read again and at
@@ -266,8 +254,8 @@ fn put_lines<R: Source, W: Sink>(
     output: &mut Output,
     source: &mut R,
     sink: &mut W,
-) -> Result<Status, Failed>
-    requires ranges { AreInRange options.now }
+) -> Result<Outcome, Failed>
+    requires ranges { IsEncode options.now }
     requires opened { ReaderStands frame_line_at lines.old (opened (2 ^ 40)) }
     requires waits { is_ready sender.old ≡ false }
     ensures { (start : Option (List ℕ)) → HasPut sender.old options.now [] start (W.held sink.old) output.old
@@ -277,12 +265,12 @@ fn put_lines<R: Source, W: Sink>(
     loop {
         output.release(sink, lines.holds_line())?;
         match lines.next(source) {
-            Ok(Some(line)) => match put_frame(line.frame, line.gap, sender, output, sink) {
+            Ok(Some(line)) => match put_line(line, sender, output, sink) {
                 Ok(()) => {}
                 Err(Halt::Failed) => return Err(Failed),
                 Err(Halt::TooTight) => {
                     output.flush(sink)?;
-                    return Ok(Status::TooTight {
+                    return Ok(Outcome::TooTight {
                         frame: lines.answered(),
                     });
                 }
@@ -290,11 +278,11 @@ fn put_lines<R: Source, W: Sink>(
             Ok(None) => {
                 finish(options, sender, output, sink)?;
                 output.flush(sink)?;
-                return Ok(Status::Done);
+                return Ok(Outcome::Done);
             }
             Err(fault) => {
                 output.flush(sink)?;
-                return Ok(Status::from(fault));
+                return Ok(Outcome::from(fault));
             }
         }
     }
@@ -307,8 +295,8 @@ fn transmit<R: Source, W: Sink>(
     output: &mut Output,
     source: &mut R,
     sink: &mut W,
-) -> Result<Status, Failed>
-    requires ranges { AreInRange options.now }
+) -> Result<Outcome, Failed>
+    requires ranges { IsEncode options.now }
     requires opened { ReaderStands frame_line_at lines.old (opened (2 ^ 40)) }
     requires empty { output.old ≡ [] }
     ensures { Encodes options.now
@@ -325,18 +313,32 @@ pub fn encode<R: Source, W: Sink>(
     options: &EncodeOptions,
     source: &mut R,
     sink: &mut W,
-) -> Status
-    requires { AreInRange options.now }
+) -> Outcome
+    requires { IsEncode options.now }
+    ensures { OrNoMemory (Encoded options.now)
+        (seen R.left R.ended R.faults W.held W.faults source.old source.new sink.old sink.new) result }
+{
+    match Lines::open(alloc, LIMIT) {
+        Ok(mut lines) => encode_opened(options, &mut lines, source, sink),
+        Err(_) => Outcome::NoMemory,
+    }
+}
+
+/// The same with a reader that was opened and had no other call. It takes no memory.
+pub fn encode_opened<R: Source, W: Sink>(
+    options: &EncodeOptions,
+    lines: &mut Lines,
+    source: &mut R,
+    sink: &mut W,
+) -> Outcome
+    requires ranges { IsEncode options.now }
+    requires opened { ReaderStands frame_line_at lines.old (opened (2 ^ 40)) }
     ensures { Encoded options.now
         (seen R.left R.ended R.faults W.held W.faults source.old source.new sink.old sink.new) result }
 {
-    match open(alloc) {
-        Ok((mut lines, mut output)) => {
-            match transmit(options, &mut lines, &mut output, source, sink) {
-                Ok(status) => status,
-                Err(Failed) => Status::WriteFault,
-            }
-        }
-        Err(_) => Status::NoMemory,
+    let mut output = Output::new();
+    match transmit(options, lines, &mut output, source, sink) {
+        Ok(outcome) => outcome,
+        Err(Failed) => Outcome::WriteFault,
     }
 }

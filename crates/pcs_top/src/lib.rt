@@ -2,20 +2,26 @@
 #![tactic(auto)]
 
 mod blocks;
-mod command;
+mod decode;
 mod encode;
+mod event_lines;
+mod idle_pairs;
 mod laws;
+mod listening;
+mod migrate;
 mod notes;
-mod options;
-mod output;
+mod report;
 mod status;
+mod tallies;
+mod teller;
 mod top;
 mod unblock;
 
+pub use blocks::blocks_opened;
+pub use decode::decode_opened;
+pub use encode::encode_opened;
 pub use laws::unblock_undoes_blocks;
-pub use options::EncodeOptions;
-pub use status::{Cause, Status};
+pub use pcs_words::Cause;
+pub use status::Status;
 pub use top::run;
-
-// The greatest number of octets that are taken.
-const LIMIT: u64 = 1 << 40;
+pub use unblock::unblock_opened;

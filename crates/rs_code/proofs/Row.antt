@@ -1,7 +1,7 @@
 -- One Horner row over the lanes, and lists that are filled place by place.
 use Rattle.std.proofs.Common.{◌≡◌, ◌≢◌, ℕ, ◌+◌, ◌-◌, ◌<◌, ◌≤◌, ◌⊎◌, inl, inr, List, [], ◌∷◌, length, drop}
 use Rattle.std.proofs.Common.{get_or, replicate, refl, sym, ap, ◌∙◌, subst, arith}
-use Rattle.std.proofs.lemmas.List.{get_or-set_same, get_or-set_other, get_or_default, length-drop}
+use Rattle.std.proofs.lemmas.List.{get_or-set_same, get_or-set_other, length-drop}
 use Rattle.std.proofs.lemmas.Bool.{cases_lt}
 use Rattle.std.proofs.lemmas.Simd.{get_or-replicate}
 use Rattle.std.proofs.Math.ListN.{set}
@@ -30,26 +30,21 @@ nothing_after m n le = empty (drop n m) (omega (arith, length-drop n m))
     empty [] e = refl
     empty (x ∷ l) e = absurd (omega arith)
 
-pub sums_first : (word sums : List Symbol) (z : Symbol) (j : ℕ) → length word ≡ 544 → j < 32 → z ≡ zero_symbol
-    → sums ≡ replicate 32 z → get_or sums j zero_symbol ≡ value gf (drop 544 word) (power gf alpha j)
-sums_first word sums z j long less ez e =
+pub sums_first : (word sums : List Symbol) (z : Symbol) (j : ℕ) → j < 32 → z ≡ zero_symbol
+    → sums ≡ replicate 32 z → get_or sums j zero_symbol ≡ value gf (drop (length word - 0) word) (power gf alpha j)
+sums_first word sums z j less ez e =
     ap (λ l. get_or l j zero_symbol) e ∙ get_or-replicate 32 j z zero_symbol less ∙ ez
-    ∙ sym (ap (λ l. value gf l (power gf alpha j)) (nothing_after word 544 (omega arith)))
+    ∙ sym (ap (λ l. value gf l (power gf alpha j)) (nothing_after word (length word - 0) (omega arith)))
 
-pub sums_next : (word sums steps new : List Symbol) (i : ℕ) (c : Symbol) → length word ≡ 544 → i < 544
-    → EachLane (λ x y. sum_of (product_of x y) (get_or word (543 - i) c)) sums steps new
+pub sums_next : (word sums steps new : List Symbol) (i : ℕ) (c : Symbol) → i < length word
+    → c ≡ get_or word (length word - 1 - i) c → EachLane (λ x y. sum_of (product_of x y) c) sums steps new
     → ((j : ℕ) → j < 32 → get_or steps j zero_symbol ≡ power gf alpha j)
-    → ((j : ℕ) → j < 32 → get_or sums j zero_symbol ≡ value gf (drop (544 - i) word) (power gf alpha j))
-    → (j : ℕ) → j < 32 → get_or new j zero_symbol ≡ value gf (drop (544 - (i + 1)) word) (power gf alpha j)
-sums_next word sums steps new i c long less h hs hv j lt =
-    let v = get_or word (543 - i) c in
+    → ((j : ℕ) → j < 32 → get_or sums j zero_symbol ≡ value gf (drop (length word - i) word) (power gf alpha j))
+    → (j : ℕ) → j < 32 → get_or new j zero_symbol ≡ value gf (drop (length word - (i + 1)) word) (power gf alpha j)
+sums_next word sums steps new i c less ec h hs hv j lt =
     let s = get_or sums j zero_symbol in
     let x = power gf alpha j in
-    let at : 543 - i ≡ length word - 1 - i = omega arith in
-    let up : 544 - i ≡ length word - i = omega arith in
-    let down : length word - (i + 1) ≡ 544 - (i + 1) = omega arith in
-    h.each j lt ∙ ap (λ z. sum_of (product_of s z) v) (hs j lt) ∙ laws.add_comm (product_of s x) v
-    ∙ ap (sum_of v) (laws.mul_comm s x)
-    ∙ value_next word x v s i (543 - i) at (omega arith) (get_or_default word (543 - i) c v (omega arith))
-    (hv j lt ∙ ap (λ z. value gf (drop z word) x) up)
-    ∙ ap (λ z. value gf (drop z word) x) down
+    let at = length word - 1 - i in
+    h.each j lt ∙ ap (λ z. sum_of (product_of s z) c) (hs j lt) ∙ laws.add_comm (product_of s x) c
+    ∙ ap (sum_of c) (laws.mul_comm s x)
+    ∙ value_next word x c s i at (omega arith) less ec (hv j lt)

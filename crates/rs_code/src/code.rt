@@ -1,11 +1,10 @@
-ghost use Rattle.std.specs.Prelude.{◌≡◌, ℕ, ◌<◌, ◌++◌, length, slice_index_or};
+ghost use Rattle.std.specs.Prelude.{◌≡◌, ℕ, ◌<◌, ◌++◌, ◌↔◌, IsTrue, length, slice_index_or};
 ghost use Rattle.gf1024.specs.Symbol.{gf, zero_symbol, alpha};
 ghost use Rattle.field_base.specs.Field.{power};
 ghost use Rattle.field_base.specs.Poly.{value};
-ghost use Rattle.rs_code.specs.Register.{shifted};
 ghost use Rattle.rs_code.specs.Near.{coded};
 
-use crate::rows::multiple_at;
+use crate::remainder::remainder;
 use gf_lanes::{Gf32, horner};
 use gf1024::Gf;
 
@@ -14,25 +13,9 @@ pub fn encode(message: &[Gf; 514], parity: &mut [Gf; 30])
     ensures coded { parity.new ++ message.now ≡ coded message.now }
     ensures size { length parity.new ≡ 30 }
 {
-    for j in 0..30usize {
-        parity[j] = Gf::low(0);
-    }
-    for i in 0..514usize {
-        let feedback = message[513 - i].add(parity[29]);
-        shift(parity, feedback);
-    }
-}
-
-// x times the register, with its highest place taken out by a multiple of the generator.
-#[inline(always)]
-fn shift(register: &mut [Gf; 30], feedback: Gf)
-    ensures { register.new ≡ shifted feedback register.old }
-{
-    let mut carry = Gf::low(0);
+    let register = remainder(message);
     for k in 0..30usize {
-        let here = register[k];
-        register[k] = carry.add(multiple_at(feedback, k));
-        carry = here;
+        parity[k] = register.lane(k + 2);
     }
 }
 
@@ -41,7 +24,11 @@ pub fn syndromes(word: &[Gf; 544]) -> [Gf; 30]
     ensures { (j : ℕ) → j < 30
         → slice_index_or result j zero_symbol ≡ value gf word.now (power gf alpha j) }
 {
-    let sums = lane_values(word);
+    let rest = rest_of(word);
+    if are_zero(&rest) {
+        return rest;
+    }
+    let sums = values_in_lanes(&rest);
     let mut values = [Gf::low(0); 30];
     for j in 0..30usize {
         values[j] = sums.lane(j);
@@ -49,16 +36,45 @@ pub fn syndromes(word: &[Gf; 544]) -> [Gf; 30]
     values
 }
 
-// The values at alpha^0 to alpha^31, one a lane.
+// The remainder of the word by the generator, which has the same values at the roots.
 #[inline(always)]
-fn lane_values(word: &[Gf; 544]) -> Gf32
+fn rest_of(word: &[Gf; 544]) -> [Gf; 30]
+    ensures { (j : ℕ) → j < 30 → value gf result (power gf alpha j) ≡ value gf word.now (power gf alpha j) }
+{
+    let whole = &word[..];
+    let register = remainder(&whole[30..]);
+    let mut rest = [Gf::low(0); 30];
+    for k in 0..30usize {
+        rest[k] = word[k].add(register.lane(k + 2));
+    }
+    rest
+}
+
+/// Tells whether all symbols are zero.
+#[inline(always)]
+pub fn are_zero(values: &[Gf]) -> bool
+    ensures { IsTrue result
+        ↔ ((j : ℕ) → j < length values.now → slice_index_or values.now j zero_symbol ≡ zero_symbol) }
+{
+    for j in 0..values.len() {
+        if !values[j].is_zero() {
+            return false;
+        }
+    }
+    true
+}
+
+/// The values of a word of any length at `alpha^0` to `alpha^31`, one a lane.
+#[inline(always)]
+pub fn values_in_lanes(word: &[Gf]) -> Gf32
     ensures { (j : ℕ) → j < 32
         → slice_index_or result j zero_symbol ≡ value gf word.now (power gf alpha j) }
 {
     let steps = powers();
     let mut sums = Gf32::new([Gf::low(0); 32]);
-    for i in 0..544usize {
-        sums = horner(sums, steps, word[543 - i]);
+    let count = word.len();
+    for i in 0..count {
+        sums = horner(sums, steps, word[count - 1 - i]);
     }
     sums
 }

@@ -7,9 +7,10 @@
 
 mod code;
 pub mod laws;
+mod remainder;
 mod rows;
 
-pub use code::{encode, syndromes};
+pub use code::{are_zero, encode, syndromes, values_in_lanes};
 
 #[cfg(test)]
 mod tests;

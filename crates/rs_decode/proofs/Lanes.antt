@@ -1,7 +1,7 @@
 -- Lists in thirty-two lanes, and sums along a sequence over lanes.
-use Rattle.std.proofs.Common.{◌≡◌, ℕ, zero, suc, ◌+◌, ◌<◌, ◌≤◌, List, [], ◌∷◌, length, get_or, replicate}
+use Rattle.std.proofs.Common.{◌≡◌, ℕ, zero, suc, ◌+◌, ◌<◌, ◌≤◌, List, [], ◌∷◌, length, take, get_or, replicate}
 use Rattle.std.proofs.Common.{refl, sym, ap, ap₂, ◌∙◌, subst, arith}
-use Rattle.std.proofs.lemmas.List.{ext_get_or}
+use Rattle.std.proofs.lemmas.List.{ext_get_or, get_or-take}
 use Rattle.std.proofs.lemmas.Simd.{get_or-replicate, length-replicate}
 use Rattle.gf1024.specs.Symbol.{Symbol, gf, zero_symbol, one_symbol, sum_of, product_of}
 use Rattle.gf1024.proofs.FieldLaws.{laws}
@@ -44,6 +44,11 @@ module _ (F : Field) (L : Laws F) where
 -- a list, with zeros after it
 abbrev pub InLanes : List Symbol → List Symbol → Type 0
 InLanes c lanes = StartsAs 32 c lanes
+
+-- one place on
+pub moved : (x : Symbol) (c : List Symbol) (k : ℕ) → k < 32 → get_or (x ∷ take 31 c) k zero_symbol ≡ get_or (x ∷ c) k zero_symbol
+moved x c zero less = refl
+moved x c (suc k) less = get_or-take 31 c k zero_symbol (omega arith)
 
 -- the latest of the first n symbols
 pub record AreLatest (s : List Symbol) (n : ℕ) (lanes : List Symbol) : Type 0 where
@@ -118,16 +123,6 @@ mended_lanes c b A B F Q S d ha hb e products sums = record {
       ∙ ap₂ sum_of (ha.each k less)
       (products.each k less ∙ ap₂ product_of (splat_at F d k e less) (hb.each k less))
       ∙ sym (mended_at c b d k);
-}
-
--- with nothing of the other list
-pub kept_lanes : (c b S : List Symbol) (d : Symbol) → d ≡ zero_symbol → InLanes (mended c d b) S → InLanes c S
-kept_lanes c b S d e h = record {
-  long = h.long;
-  each = λ k less. h.each k less ∙ mended_at c b d k
-      ∙ ap (λ z. sum_of (get_or c k zero_symbol) (product_of z (get_or b k zero_symbol))) e
-      ∙ ap (sum_of (get_or c k zero_symbol)) (zero_mul gf laws (get_or b k zero_symbol))
-      ∙ laws.add_zero (get_or c k zero_symbol);
 }
 
 -- the lists in lanes, with the latest symbols

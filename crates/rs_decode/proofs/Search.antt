@@ -1,93 +1,28 @@
--- The locator's values from place to place, as sums of terms in lanes.
+-- The table of the inverse powers of alpha, and the roots found from place to place.
 use Rattle.std.proofs.Common.{◌≡◌, ℕ, zero, suc, ◌+◌, ◌-◌, ◌%◌, ◌<◌, ◌≤◌, Bool, true, false, List, [], ◌∷◌, ◌++◌, length, get_or}
-use Rattle.std.proofs.Common.{take, cond, ◌==◌, refl, sym, ap, ap₂, ◌∙◌, append_assoc, arith}
+use Rattle.std.proofs.Common.{take, cond, ◌==◌, refl, sym, ap, ◌∙◌, append_assoc, arith, inl, inr}
 use Rattle.std.specs.List.{filter, range_with_len}
-use Rattle.std.proofs.lemmas.Bool.{eqb-true}
+use Rattle.std.proofs.lemmas.Bool.{eqb-true, cases_lt}
 use Rattle.std.proofs.lemmas.List.{take_all, append-nil}
-use Rattle.gf1024.specs.Symbol.{Symbol, gf, zero_symbol, one_symbol, symbol, product_of, alpha, product_of_squares}
+use Rattle.gf1024.specs.Symbol.{Symbol, gf, one_symbol, symbol, product_of, alpha}
 use Rattle.gf1024.specs.Word.{product, reduced, times_low}
 use Rattle.gf1024.proofs.FieldLaws.{laws, symbol_path, value_product}
+use Rattle.gf1024.proofs.InverseTable.{only_inverse}
 use Rattle.gf1024.proofs.Linear.{all_below, all_below_at}
 use Rattle.gf1024.proofs.Powers.{alpha_nonzero}
-use Rattle.field_base.specs.Field.{Field, Laws, power, total}
-use Rattle.field_base.specs.Poly.{value}
-use Rattle.field_base.proofs.Ring.{zero_mul, mul_zero, zero_add, one_mul, mul_left}
+use Rattle.field_base.specs.Field.{Field, Laws, power}
+use Rattle.field_base.proofs.Ring.{mul_left}
 use Rattle.field_base.proofs.Shorter.{power_apart}
 use Rattle.field_base.proofs.Words.{power_of_product, power_of_one}
-use Rattle.gf_lanes.specs.Lanes.{EachLane}
-use Rattle.rs_decode.specs.Recurrence.{StartsAs}
 use Rattle.rs_decode.specs.Repair.{place, back_power, is_root, roots_below}
 use Rattle.rs_decode.specs.declared.roots.TheConstants.{INVERSE_POWERS}
-use Rattle.rs_decode.proofs.Steps.{only_inverse}
 
 module _ (F : Field) (L : Laws F) where
   open F use {carrier, add, mul, zero_element, one}
 
-  -- the sum of c[k] p y^k is p times the value at y
-  pub sum_of_terms : (T c : List carrier) (p y : carrier) → length c ≤ length T
-      → ((k : ℕ) → k < length T → get_or T k zero_element ≡ mul (get_or c k zero_element) (mul p (power F y k)))
-      → total F (λ t. t) T ≡ mul p (value F c y)
-  sum_of_terms [] [] p y le h = sym (mul_zero F L p)
-  sum_of_terms [] (c ∷ cs) p y le h = absurd (omega arith)
-  sum_of_terms (t ∷ ts) [] p y le h =
-      let later : total F (λ t. t) ts ≡ mul p zero_element =
-      sum_of_terms ts [] p y (omega arith) (λ k less.
-      h (suc k) (omega arith) ∙ zero_mul F L (mul p (power F y (suc k))) ∙ sym (zero_mul F L (mul p (power F y k)))) in
-      ap (λ z. add z (total F (λ t. t) ts)) (h zero (omega arith) ∙ zero_mul F L (mul p one))
-      ∙ zero_add F L (total F (λ t. t) ts) ∙ later
-  sum_of_terms (t ∷ ts) (c ∷ cs) p y le h =
-      let v = value F cs y in
-      let later : total F (λ t. t) ts ≡ mul (mul p y) v =
-      sum_of_terms ts cs (mul p y) y (omega arith) (λ k less.
-      h (suc k) (omega arith) ∙ ap (mul (get_or cs k zero_element)) (sym (L.mul_assoc p y (power F y k)))) in
-      ap (λ z. add z (total F (λ t. t) ts)) (h zero (omega arith) ∙ ap (mul c) (L.mul_one p) ∙ L.mul_comm c p)
-      ∙ ap (add (mul p c)) (later ∙ L.mul_assoc p y v) ∙ sym (L.mul_add p c (mul y v))
-
   pub power_swap : (b : carrier) (k i : ℕ) → power F (power F b k) i ≡ power F (power F b i) k
   power_swap b zero i = power_of_one F L i
   power_swap b (suc k) i = power_of_product F L b (power F b k) i ∙ ap (mul (power F b i)) (power_swap b k i)
-
-abbrev pub back : Symbol
-back = product_of_squares 9 alpha
-
--- the inverse of a^i
-pub inverse_of_power : (i : ℕ) → product_of_squares 9 (power gf alpha i) ≡ power gf back i
-inverse_of_power i =
-    sym (only_inverse (power gf alpha i) (power gf back i) (power_apart gf laws alpha alpha_nonzero i)
-    (sym (power_of_product gf laws alpha back i)
-    ∙ ap (λ z. power gf z i) (laws.mul_inverse alpha alpha_nonzero) ∙ power_of_one gf laws i))
-
--- lane k at place i
-pub record IsTerms (c : List Symbol) (i : ℕ) (T : List Symbol) : Type 0 where
-  pub long : length T ≡ 32
-  pub each : (k : ℕ) → k < 32 → get_or T k zero_symbol ≡ product_of (get_or c k zero_symbol) (power gf (power gf back k) i)
-
-pub terms_first : (c T : List Symbol) → StartsAs 32 c T → IsTerms c 0 T
-terms_first c T h = record {
-  long = h.long;
-  each = λ k less. h.each k less ∙ sym (laws.mul_one (get_or c k zero_symbol));
-}
-
-pub terms_next : (c T steps new : List Symbol) (i : ℕ) → IsTerms c i T
-    → ((k : ℕ) → k < 32 → get_or steps k zero_symbol ≡ back_power k) → EachLane product_of steps T new
-    → IsTerms c (i + 1) new
-terms_next c T steps new i h hs lanes = record {
-  long = lanes.long;
-  each = λ k less.
-      let q = power gf back k in
-      let one : suc i ≡ i + 1 = omega arith in
-      lanes.each k less ∙ ap₂ product_of (hs k less ∙ inverse_of_power k) (h.each k less)
-      ∙ mul_left gf laws q (get_or c k zero_symbol) (power gf q i)
-      ∙ ap (λ z. product_of (get_or c k zero_symbol) (power gf q z)) one;
-}
-
-pub terms_sum : (c T : List Symbol) (i : ℕ) → IsTerms c i T → length c ≤ 32 → total gf (λ t. t) T ≡ value gf c (back_power i)
-terms_sum c T i h le =
-    let y = power gf back i in
-    sum_of_terms gf laws T c one_symbol y (omega (arith, h.long)) (λ k less.
-    h.each k (omega (arith, h.long))
-    ∙ ap (product_of (get_or c k zero_symbol)) (power_swap gf laws back k i ∙ sym (one_mul gf laws (power gf y k))))
-    ∙ one_mul gf laws (value gf c y) ∙ ap (value gf c) (sym (inverse_of_power i))
 
 -- the table, computed on numbers: each entry is twice the next one
 abbrev entry : ℕ → ℕ
@@ -146,7 +81,7 @@ found_root c found all n i less e h =
     (filter (is_root c) (range_with_len (i + 1) m)))) (sym e)
     ∙ ap (λ z. take 16 (found ++ filter (is_root c) (range_with_len i z))) more ∙ h
 
-pub found_none : (c : List Symbol) (found all : List ℕ) (n i : ℕ) → i < n → is_root c i ≡ false
+found_none : (c : List Symbol) (found all : List ℕ) (n i : ℕ) → i < n → is_root c i ≡ false
     → take 16 (found ++ roots_from c i (n - i)) ≡ all → take 16 (found ++ roots_from c (i + 1) (n - (i + 1))) ≡ all
 unfolding roots_from
 found_none c found all n i less e h =
@@ -165,6 +100,24 @@ pub found_enough : (c : List Symbol) (found all : List ℕ) (n i : ℕ) → 16 �
     → take 16 (found ++ roots_from c i (n - i)) ≡ all → take 16 (found ++ roots_from c (i + 1) (n - (i + 1))) ≡ all
 found_enough c found all n i le h =
     take_enough found (roots_from c (i + 1) (n - (i + 1))) 16 le ∙ sym (take_enough found (roots_from c i (n - i)) 16 le) ∙ h
+
+-- past the end there is none
+pub found_past : (c : List Symbol) (found all : List ℕ) (n i : ℕ) → n ≤ i
+    → take 16 (found ++ roots_from c i (n - i)) ≡ all → take 16 (found ++ roots_from c (i + 1) (n - (i + 1))) ≡ all
+unfolding roots_from
+found_past c found all n i le h =
+    let none : n - (i + 1) ≡ 0 = omega arith in
+    let before : 0 ≡ n - i = omega arith in
+    ap (λ z. take 16 (found ++ filter (is_root c) (range_with_len (i + 1) z))) none
+    ∙ ap (λ z. take 16 (found ++ filter (is_root c) (range_with_len i z))) before ∙ h
+
+-- place i is none, or past the end
+pub found_other : (c : List Symbol) (found all : List ℕ) (n i : ℕ) → is_root c i ≡ false
+    → take 16 (found ++ roots_from c i (n - i)) ≡ all → take 16 (found ++ roots_from c (i + 1) (n - (i + 1))) ≡ all
+found_other c found all n i e h = elim (cases_lt i n) [
+  | inl less ↦ found_none c found all n i less e h
+  | inr past ↦ found_past c found all n i past h
+]
 
 pub found_last : (c : List Symbol) (found all : List ℕ) (n i : ℕ) → n ≤ i → length found ≤ 16
     → take 16 (found ++ roots_from c i (n - i)) ≡ all → found ≡ all

@@ -2,7 +2,7 @@
 ghost use Rattle.std.specs.Prelude.{◌≡◌, ◌≤◌, ◌∷◌, length};
 ghost use Rattle.rs_decode.specs.Recurrence.{IsRecurrence, StartsAs};
 
-use gf_lanes::{Gf32, add, mul, sum};
+use gf_lanes::{Gf32, add, mul, one_on, sum};
 use gf1024::{Gf, Poly};
 
 /// A list `c[1]` to `c[length]` with `s[n] + c[1] s[n-1] + .. + c[length] s[n-length] = 0` at each
@@ -36,13 +36,15 @@ pub fn shortest_recurrence_of(sequence: &[Gf]) -> Recurrence
     for n in 0..sequence.len() {
         latest = behind(sequence[n], latest);
         let discrepancy = sum(mul(here, latest));
-        let next = add(here, mul(Gf32::new([discrepancy; 32]), other));
-        if !discrepancy.is_zero() && 2 * length <= n {
-            other = mul(Gf32::new([discrepancy.inverse(); 32]), here);
-            length = n + 1 - length;
+        if !discrepancy.is_zero() {
+            let next = add(here, mul(Gf32::new([discrepancy; 32]), other));
+            if 2 * length <= n {
+                other = mul(Gf32::new([discrepancy.inverse(); 32]), here);
+                length = n + 1 - length;
+            }
+            here = next;
         }
         other = behind(Gf::low(0), other);
-        here = next;
     }
     Recurrence {
         length,
@@ -55,11 +57,7 @@ pub fn shortest_recurrence_of(sequence: &[Gf]) -> Recurrence
 pub fn behind(first: Gf, lanes: Gf32) -> Gf32
     ensures { StartsAs 32 (first ∷ lanes) result }
 {
-    let mut list = [first; 32];
-    for k in 1..32usize {
-        list[k] = lanes.lane(k - 1);
-    }
-    Gf32::new(list)
+    one_on(first, lanes)
 }
 
 // The first lanes.

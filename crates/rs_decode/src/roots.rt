@@ -1,29 +1,46 @@
 //! The places of the errors: those whose power of alpha has its inverse among the locator's roots.
-ghost use Rattle.std.specs.Prelude.{◌≡◌, ℕ, ◌<◌, ◌≤◌, length, take, slice_index, slice_index_or};
+ghost use Rattle.std.specs.Prelude.{◌≡◌, ℕ, ◌+◌, ◌<◌, ◌≤◌, take, slice_index_or};
 ghost use Rattle.gf1024.specs.Symbol.{gf, zero_symbol};
+ghost use Rattle.field_base.specs.Poly.{value};
 ghost use Rattle.rs_decode.specs.Recurrence.{StartsAs};
 ghost use Rattle.rs_decode.specs.Repair.{back_power, roots_below};
 
 use arrayvec::ArrayVec;
-use gf_lanes::{Gf32, mul, sum};
+use gf_lanes::{Gf32, horner};
 use gf1024::{Gf, Poly};
 
-/// The places of a word at which the locator has a root, of which it takes the first sixteen.
-pub fn root_places(locator: &Poly) -> ArrayVec<usize, 16>
-    requires { length locator.now ≤ 32 }
-    ensures { result.items ≡ take 16 (roots_below 544 locator.now) }
+/// The places of a word of `count` symbols at which the locator has a root, of which it takes the
+/// first sixteen.
+pub fn root_places(locator: &Poly, count: usize) -> ArrayVec<usize, 16>
+    requires { count ≤ 544 }
+    ensures { result.items ≡ take 16 (roots_below count locator.now) }
 {
-    let steps = steps_back();
-    let mut terms = lanes_of(locator);
     let mut places = ArrayVec::new();
-    for i in 0..544usize {
-        // Lane k holds coefficient k times the k-th power of alpha^-i.
-        if sum(terms).is_zero() && places.len() < 16 {
-            places.push(i);
+    for row in 0..17usize {
+        let values = values_at(locator, powers_back(32 * row));
+        for k in 0..32usize {
+            let place = 32 * row + k;
+            if values.lane(k).is_zero() && place < count && places.len() < 16 {
+                places.push(place);
+            }
         }
-        terms = mul(steps, terms);
     }
     places
+}
+
+/// The values of the polynomial at the points, lane by lane.
+#[inline(always)]
+pub fn values_at(poly: &Poly, points: Gf32) -> Gf32
+    ensures { (j : ℕ) → j < 32
+        → slice_index_or result j zero_symbol ≡ value gf poly.now (slice_index_or points j zero_symbol) }
+{
+    let count = poly.len();
+    let highest = poly.at(count.saturating_sub(1));
+    let mut sums = Gf32::new([highest; 32]);
+    for i in 1..count {
+        sums = horner(sums, points, poly.at(count - 1 - i));
+    }
+    sums
 }
 
 /// The coefficients, one a lane.
@@ -37,14 +54,15 @@ pub fn lanes_of(poly: &Poly) -> Gf32
     Gf32::new(list)
 }
 
-// The powers of alpha^-1 from 0 to 31, one a lane.
+// alpha^-i for thirty-two places from one on, one a lane.
 #[inline(always)]
-fn steps_back() -> Gf32
-    ensures { (k : ℕ) → k < 32 → slice_index_or result k zero_symbol ≡ back_power k }
+fn powers_back(start: usize) -> Gf32
+    requires { start + 32 ≤ 544 }
+    ensures { (k : ℕ) → k < 32 → slice_index_or result k zero_symbol ≡ back_power (start + k) }
 {
     let mut list = [Gf::low(0); 32];
     for k in 0..32usize {
-        list[k] = inverse_power(k);
+        list[k] = inverse_power(start + k);
     }
     Gf32::new(list)
 }

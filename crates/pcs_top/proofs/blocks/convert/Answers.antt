@@ -1,12 +1,12 @@
 use Rattle.std.proofs.Common.{ap, arith, ◌≤◌, ◌∙◌, Ok, Err}
 use Rattle.std.proofs.lemmas.Result.{err_from_is_err_and}
-use Rattle.pcs_top.specs.Seen.{seen}
-use Rattle.pcs_io.specs.FrameAnswers.{content}
+use Rattle.pcs_drive.specs.Seen.{seen}
+use Rattle.pcs_io.specs.FrameAnswers.{content, said}
 use Rattle.pcs_io.specs.FrameLines.{FrameLine}
 use Rattle.pcs_top.specs.Texts.{block_text}
 use Rattle.pcs_top.proofs.LineTexts.{no-lines, one-frame-line}
-use Rattle.pcs_top.proofs.WritingLemmas.{wrote-none}
-use Rattle.pcs_top.proofs.Copying.{copied-start, copied-kept, copied-line, copied-done, copied-fault, line-failed, end-failed, fault-failed, next-line, next-end, next-fault, read-failed, rose-after}
+use Rattle.pcs_drive.proofs.WritingLemmas.{wrote-none}
+use Rattle.pcs_drive.proofs.Copying.{copied-start, copied-kept, copied-line, copied-done, copied-fault, line-failed, end-failed, fault-failed, next-line, next-end, next-fault, read-failed, rose-after}
 use Rattle.pcs_top.proofs.blocks.convert.Goals as goal
 
 pub loop-lines-init : goal.loop-lines-init
@@ -19,26 +19,26 @@ loop-lines-init g c = record {
 pub loop-lines-preserved : goal.loop-lines-preserved
 loop-lines-preserved g c =
     let kept = copied-kept _ _ _ _ _ _ _ _ _ _ _ c.loop-lines.invariant.copied c.in_ok-release.ensures.ok in
-    let line : FrameLine = record { gap = c.in-Ok-Some.line.gap; frame = c.in-Ok-Some.line.frame.now } in
+    let line : FrameLine = said c.in-Ok-Some.line in
     let next = next-line _ _ _ _ _ _ _ line (ap content c.in-Ok-Some.is ∙ ap (λ p. content (Ok p)) c.in-Ok-Some.field-0-is) c.next.follows.holds-at-none in
     record {
       copied = copied-line _ _ _ _ _ _ _ _ _ _ _ _ _ _ _ _ kept next
-          (λ lines keeps. tt) (λ lines keeps start wrote. rw (one-frame-line lines line) (c.in_ok-put_frame-in-Ok-Some.ensures.ok start (block_text lines) wrote));
+          (λ lines keeps. tt) (λ lines keeps start wrote. rw (one-frame-line lines line) (c.in_ok-put_line-in-Ok-Some.ensures.ok start (block_text lines) wrote));
       reads = omega (arith, c.next.ensures.later);
-      writes = omega (arith, c.release.ensures.cause.later, c.put_frame.ensures.cause.later);
+      writes = omega (arith, c.release.ensures.cause.later, c.put_line.ensures.cause.later);
     }
 
-pub returns-in_err-put_frame-in-Ok-Some : goal.returns-in_err-put_frame-in-Ok-Some
-returns-in_err-put_frame-in-Ok-Some g c =
-    let exit = err_from_is_err_and c.from_residual-in_err-put_frame-in-Ok-Some.result c.from_residual-in_err-put_frame-in-Ok-Some.ensures.1 in
+pub returns-in_err-put_line-in-Ok-Some : goal.returns-in_err-put_line-in-Ok-Some
+returns-in_err-put_line-in-Ok-Some g c =
+    let exit = err_from_is_err_and c.from_residual-in_err-put_line-in-Ok-Some.result c.from_residual-in_err-put_line-in-Ok-Some.ensures.1 in
     let kept = copied-kept _ _ _ _ _ _ _ _ _ _ _ c.loop-lines.invariant.copied c.in_ok-release.ensures.ok in
-    let line : FrameLine = record { gap = c.in-Ok-Some.line.gap; frame = c.in-Ok-Some.line.frame.now } in
+    let line : FrameLine = said c.in-Ok-Some.line in
     let next = next-line _ _ _ _ _ _ _ line (ap content c.in-Ok-Some.is ∙ ap (λ p. content (Ok p)) c.in-Ok-Some.field-0-is) c.next.follows.holds-at-none in
     let later : g.W.Sink.faults c.args.sink.now ≤ g.W.Sink.faults c.release.new.sink = omega (arith, c.release.ensures.cause.later) in
     let around = seen g.R.Source.left g.R.Source.ended g.R.Source.faults g.W.Sink.held g.W.Sink.faults
-    c.args.source.now c.next.new.source c.args.sink.now c.put_frame.new.sink in
-    rw exit.1 (line-failed _ _ _ around _ _ _ _ _ _ kept next (rose-after _ _ _ later c.in_err-put_frame-in-Ok-Some.ensures.cause.failed)
-    (λ lines keeps start wrote. rw (one-frame-line lines line) (c.in_err-put_frame-in-Ok-Some.ensures.err start (block_text lines) wrote)))
+    c.args.source.now c.next.new.source c.args.sink.now c.put_line.new.sink in
+    rw exit.1 (line-failed _ _ _ around _ _ _ _ _ _ kept next (rose-after _ _ _ later c.in_err-put_line-in-Ok-Some.ensures.cause.failed)
+    (λ lines keeps start wrote. rw (one-frame-line lines line) (c.in_err-put_line-in-Ok-Some.ensures.err start (block_text lines) wrote)))
 
 pub returns-in_err-flush-in-Ok-None : goal.returns-in_err-flush-in-Ok-None
 returns-in_err-flush-in-Ok-None g c =

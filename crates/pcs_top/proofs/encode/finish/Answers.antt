@@ -1,4 +1,4 @@
-use Rattle.std.proofs.Common.{◌*◌, ap, refl, reverse}
+use Rattle.std.proofs.Common.{◌*◌, refl, reverse}
 use Rattle.std.proofs.lemmas.Result.{err_from_is_err_and, on_ok_weaker, on_err_weaker}
 use Rattle.rate_match.specs.Kept.{debt}
 use Rattle.pcs_top.specs.Sending.{filled_columns}
@@ -20,8 +20,8 @@ returns-clause-ok g c =
     on_ok_weaker c.put_idle_pairs.result
     (λ sent cs start put.
     let whole = all-whole c.args.sender.now o cs start _ _ put in
-    ends-sent _ o cs _ _ start _ _ (end-is o cs _ c.requires.ranges.period_least (ap (λ p. o.tail * p) c.from.ensures) whole)
-    (sent o.period (filled_columns o cs) (debt o.period (reverse cs)) start (c.in_ok-fill_last.ensures.ok o cs start put) whole))
+    ends-sent _ o cs _ _ start _ _ (end-is o cs _ c.requires.ranges.period_least refl whole)
+    (sent o.form o.period (filled_columns o cs) (debt o.period (reverse cs)) start (c.in_ok-fill_last.ensures.ok o cs start put) whole))
     c.put_idle_pairs.ensures.ok
 
 pub returns-clause-err : goal.returns-clause-err
@@ -30,6 +30,6 @@ returns-clause-err g c =
     on_err_weaker c.put_idle_pairs.result
     (λ failed cs start put.
     let whole = all-whole c.args.sender.now o cs start _ _ put in
-    ends-failed o cs _ start _ (end-is o cs _ c.requires.ranges.period_least (ap (λ p. o.tail * p) c.from.ensures) whole)
-    (failed o.period (filled_columns o cs) (debt o.period (reverse cs)) start (c.in_ok-fill_last.ensures.ok o cs start put) whole))
+    ends-failed o cs _ start _ (end-is o cs _ c.requires.ranges.period_least refl whole)
+    (failed o.form o.period (filled_columns o cs) (debt o.period (reverse cs)) start (c.in_ok-fill_last.ensures.ok o cs start put) whole))
     c.put_idle_pairs.ensures.err

@@ -1,10 +1,10 @@
 use Rattle.std.proofs.Common.{ap, arith, ◌≤◌, ◌∙◌, Ok, Err}
 use Rattle.std.proofs.lemmas.Result.{err_from_is_err_and}
-use Rattle.pcs_io.specs.FrameAnswers.{content}
+use Rattle.pcs_io.specs.FrameAnswers.{content, said}
 use Rattle.pcs_io.specs.FrameLines.{FrameLine}
-use Rattle.pcs_top.specs.Seen.{seen, since}
+use Rattle.pcs_drive.specs.Seen.{seen, since}
 use Rattle.pcs_top.specs.Captures.{sent_octets}
-use Rattle.pcs_top.proofs.Copying.{copied-kept, next-line, next-end, next-fault, read-failed, rose-after}
+use Rattle.pcs_drive.proofs.Copying.{copied-kept, next-line, next-end, next-fault, read-failed, rose-after}
 use Rattle.pcs_top.proofs.Encoding.{sent-start, sent-line, encoded-done, encoded-fault, encoded-tight, encoded-frame-failed, encoded-tight-failed, encoded-end-failed, encoded-fault-failed, encoded-failed}
 use Rattle.pcs_top.proofs.encode.put_lines.Goals as goal
 
@@ -24,7 +24,7 @@ returns-in_err-release g c start put =
 
 pub loop-lines-preserved : goal.loop-lines-preserved
 loop-lines-preserved g c =
-    let line : FrameLine = record { gap = c.in-Ok-Some.line.gap; frame = c.in-Ok-Some.line.frame.now } in
+    let line : FrameLine = said c.in-Ok-Some.line in
     let next = next-line _ _ _ _ _ _ _ line (ap content c.in-Ok-Some.is ∙ ap (λ p. content (Ok p)) c.in-Ok-Some.field-0-is) c.next.follows.holds-at-none in
     record {
       sent = λ start put.
@@ -32,16 +32,16 @@ loop-lines-preserved g c =
           sent-line _ _ _ _ _ _ _ _ _ _ _ _ _ _ line kept next (λ cs so_far. c.in-Ok.ensures.ok _ cs start so_far);
       waits = c.in-Ok.ensures.waits;
       reads = omega (arith, c.loop-lines.invariant.reads, c.next.ensures.later);
-      writes = omega (arith, c.loop-lines.invariant.writes, c.release.ensures.cause.later, c.put_frame.ensures.later);
+      writes = omega (arith, c.loop-lines.invariant.writes, c.release.ensures.cause.later, c.put_line.ensures.later);
     }
 
 pub returns-in-Err-Failed : goal.returns-in-Err-Failed
 returns-in-Err-Failed g c start put =
     let kept = copied-kept _ _ _ _ _ _ _ _ _ _ _ (c.loop-lines.invariant.sent start put) c.in_ok-release.ensures.ok in
-    let line : FrameLine = record { gap = c.in-Ok-Some.line.gap; frame = c.in-Ok-Some.line.frame.now } in
+    let line : FrameLine = said c.in-Ok-Some.line in
     let next = next-line _ _ _ _ _ _ _ line (ap content c.in-Ok-Some.is ∙ ap (λ p. content (Ok p)) c.in-Ok-Some.field-0-is) c.next.follows.holds-at-none in
     let later : g.W.Sink.faults c.args.sink.now ≤ g.W.Sink.faults c.release.new.sink = omega (arith, c.loop-lines.invariant.writes, c.release.ensures.cause.later) in
-    let around = since start (seen g.R.Source.left g.R.Source.ended g.R.Source.faults g.W.Sink.held g.W.Sink.faults c.args.source.now c.next.new.source c.args.sink.now c.put_frame.new.sink) in
+    let around = since start (seen g.R.Source.left g.R.Source.ended g.R.Source.faults g.W.Sink.held g.W.Sink.faults c.args.source.now c.next.new.source c.args.sink.now c.put_line.new.sink) in
     encoded-frame-failed _ _ around _ _ _ _ _ kept line next _ _ c.in-Err-Failed.field-0-is (rose-after _ _ _ later (c.in-Err-Failed.ensures.failed (ap (λ h. Err h) c.in-Err-Failed.field-0-is)))
     (λ cs so_far. c.in-Err-Failed.ensures.err _ cs start so_far)
 
@@ -49,9 +49,9 @@ pub returns-in_err-flush-in-Err-TooTight : goal.returns-in_err-flush-in-Err-TooT
 returns-in_err-flush-in-Err-TooTight g c start put =
     let exit = err_from_is_err_and c.from_residual-in_err-flush-in-Err-TooTight.result c.from_residual-in_err-flush-in-Err-TooTight.ensures.1 in
     let kept = copied-kept _ _ _ _ _ _ _ _ _ _ _ (c.loop-lines.invariant.sent start put) c.in_ok-release.ensures.ok in
-    let line : FrameLine = record { gap = c.in-Ok-Some.line.gap; frame = c.in-Ok-Some.line.frame.now } in
+    let line : FrameLine = said c.in-Ok-Some.line in
     let next = next-line _ _ _ _ _ _ _ line (ap content c.in-Ok-Some.is ∙ ap (λ p. content (Ok p)) c.in-Ok-Some.field-0-is) c.next.follows.holds-at-none in
-    let later : g.W.Sink.faults c.args.sink.now ≤ g.W.Sink.faults c.put_frame.new.sink = omega (arith, c.loop-lines.invariant.writes, c.release.ensures.cause.later, c.put_frame.ensures.later) in
+    let later : g.W.Sink.faults c.args.sink.now ≤ g.W.Sink.faults c.put_line.new.sink = omega (arith, c.loop-lines.invariant.writes, c.release.ensures.cause.later, c.put_line.ensures.later) in
     let around = since start (seen g.R.Source.left g.R.Source.ended g.R.Source.faults g.W.Sink.held g.W.Sink.faults c.args.source.now c.next.new.source c.args.sink.now c.flush.new.sink) in
     rw exit.1 (encoded-tight-failed _ _ around _ _ _ _ _ kept line next _ _ _ c.in-Err-TooTight.field-0-is (rose-after _ _ _ later c.in_err-flush-in-Err-TooTight.ensures.cause.failed)
     (λ cs so_far. c.in-Err-TooTight.ensures.err _ cs start so_far) c.in_err-flush-in-Err-TooTight.ensures.err)
@@ -59,7 +59,7 @@ returns-in_err-flush-in-Err-TooTight g c start put =
 pub returns-in-Err-TooTight : goal.returns-in-Err-TooTight
 returns-in-Err-TooTight g c start put =
     let kept = copied-kept _ _ _ _ _ _ _ _ _ _ _ (c.loop-lines.invariant.sent start put) c.in_ok-release.ensures.ok in
-    let line : FrameLine = record { gap = c.in-Ok-Some.line.gap; frame = c.in-Ok-Some.line.frame.now } in
+    let line : FrameLine = said c.in-Ok-Some.line in
     let next = next-line _ _ _ _ _ _ _ line (ap content c.in-Ok-Some.is ∙ ap (λ p. content (Ok p)) c.in-Ok-Some.field-0-is) c.next.follows.holds-at-none in
     let around = since start (seen g.R.Source.left g.R.Source.ended g.R.Source.faults g.W.Sink.held g.W.Sink.faults c.args.source.now c.next.new.source c.args.sink.now c.flush.new.sink) in
     encoded-tight _ _ around _ _ _ _ _ kept line next c.answered.result _ _ _ c.in-Err-TooTight.field-0-is c.answered.ensures (λ cs so_far. c.in-Err-TooTight.ensures.err _ cs start so_far) c.in_ok-flush-in-Err-TooTight.ensures.ok

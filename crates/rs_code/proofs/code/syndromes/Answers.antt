@@ -1,13 +1,9 @@
-use Rattle.std.proofs.Common.{◌∙◌, arith}
-use Rattle.std.proofs.lemmas.List.{length-set}
-use Rattle.rs_code.proofs.Encoder.{values_next}
+use Rattle.std.proofs.Common.{◌≡◌, length, arith}
+use Rattle.rs_code.proofs.Taken.{no_values}
 use Rattle.rs_code.proofs.code.syndromes.Goals as goal
 
-pub loop-j-preserved : goal.loop-j-preserved
-loop-j-preserved c =
-    let j = c.loop-j.j in
-    let lane = c.lane.result in (
-      length-set c.loop-j.values j lane ∙ c.loop-j.invariant.0,
-      values_next c.args.word.now c.loop-j.values j lane (omega (arith, c.loop-j.invariant.0))
-          (c.lane.ensures ∙ c.lane_values-sums.ensures j (omega arith)) c.loop-j.invariant.1,
-    )
+pub returns-then-are_zero : goal.returns-then-are_zero
+returns-then-are_zero c =
+    let long : length c.rest_of-rest.result ≡ 30 = omega (arith, c.rest_of-rest.type_inv) in
+    no_values c.rest_of-rest.result c.args.word.now long
+    (λ k less. c.are_zero.ensures.0 c.if-are_zero.true k (omega (arith, long))) c.rest_of-rest.ensures

@@ -1,65 +1,68 @@
-use Rattle.std.proofs.Common.{◌≡◌, ◌≤◌, ◌++◌, ◌∷◌, [], ◌+◌, ◌-◌, length, take, true, sym, ap, ◌∙◌, subst, arith}
+use Rattle.std.proofs.Common.{◌≡◌, ◌≤◌, ℕ, List, ◌++◌, ◌∷◌, [], ◌+◌, ◌-◌, ◌*◌, length, take, true, sym, ap, ◌∙◌, subst, arith}
 use Rattle.std.proofs.lemmas.Bool.{eq-eqb, false≢true}
 use Rattle.std.proofs.lemmas.List.{length-append}
 use Rattle.gf1024.specs.Symbol.{gf}
 use Rattle.field_base.specs.Poly.{value}
 use Rattle.rs_decode.specs.Repair.{back_power, is_root, roots_below}
 use Rattle.rs_decode.proofs.Repair.{root_test}
-use Rattle.rs_decode.proofs.Search.{terms_first, terms_next, terms_sum, roots_from}
-use Rattle.rs_decode.proofs.Search.{found_first, found_root, found_none, found_enough, found_last}
-use Rattle.rs_decode.proofs.roots.root_places.Goals.{then-is_zero+then-len-lt16, else-is_zero}
-use Rattle.rs_decode.proofs.roots.root_places.Goals.{else-is_zero-via-then-is_zero+else-len-lt16}
+use Rattle.rs_decode.proofs.Search.{roots_from, found_first, found_root, found_other, found_enough, found_past, found_last}
+use Rattle.rs_decode.proofs.roots.root_places.Goals.{then-is_zero+then-place-count+then-len-lt16, else-is_zero}
+use Rattle.rs_decode.proofs.roots.root_places.Goals.{else-is_zero-via-then-is_zero+then-place-count+else-len-lt16}
+use Rattle.rs_decode.proofs.roots.root_places.Goals.{else-is_zero-via-then-is_zero+else-place-count}
 use Rattle.rs_decode.proofs.roots.root_places.Goals.{else-is_zero-via-else-is_zero}
 use Rattle.rs_decode.proofs.roots.root_places.Goals as goal
 
-pub loop-i-init : goal.loop-i-init
-loop-i-init c = record {
-  terms = terms_first c.args.locator.now c.lanes_of-terms.result c.lanes_of-terms.ensures;
+pub loop-row-init : goal.loop-row-init
+loop-row-init c = record {
   room = omega (arith, ap length c.new-places.ensures);
-  found = found_first c.args.locator.now c.new-places.result.items 544 c.new-places.ensures;
+  found = found_first c.args.locator.now c.new-places.result.items c.args.count c.new-places.ensures;
 }
 
-pub loop-i-preserved : goal.loop-i-preserved
-loop-i-preserved c =
+pub loop-k-preserved : goal.loop-k-preserved
+loop-k-preserved c =
     let locator = c.args.locator.now in
-    let i = c.loop-i.i in
-    let found = c.loop-i.places.items in
-    let all = take 16 (roots_below 544 locator) in
-    let h = c.loop-i.invariant in
-    let total = c.sum.ensures ∙ terms_sum locator c.loop-i.terms i h.terms c.requires in
-    let next = terms_next locator c.loop-i.terms c.steps_back-steps.result c.mul-terms.result i h.terms
-    c.steps_back-steps.ensures c.mul-terms.ensures in
+    let n = c.args.count in
+    let k = c.loop-k.k in
+    let i = 32 * c.loop-row.row + k in
+    let inside = c.loop-row-test.true in
+    let found = c.loop-k.places.items in
+    let all = take 16 (roots_below n locator) in
+    let h = c.loop-k.invariant in
+    let P : List ℕ → ℕ → Type 0 = λ l m. take 16 (l ++ roots_from locator m (n - m)) ≡ all in
+    let up : i + 1 ≡ 32 * c.loop-row.row + (k + 1) = omega arith in
+    let root_value = c.lane.ensures ∙ c.values_at-values.ensures k c.loop-k-test.true
+    ∙ ap (value gf locator) (c.powers_back.ensures k c.loop-k-test.true) in
     elim c.if-is_zero.branch [
-      | then-is_zero+then-len-lt16 w ↦
+      | then-is_zero+then-place-count+then-len-lt16 w ↦
           let root : is_root locator i ≡ true = eq-eqb (value gf locator (back_power i)).value 0
-          (ap (λ v. v.value) (sym total ∙ c.is_zero.ensures.0 w.if-is_zero.true)) in
+          (ap (λ v. v.value) (sym root_value ∙ c.is_zero.ensures.0 w.if-is_zero.true)) in
           let items : c.if-is_zero.places.items ≡ found ++ i ∷ [] =
           ap (λ v. v.items) w.places-is ∙ w.push.ensures.items in
           record {
-            terms = next;
             room = omega (arith, ap length items, length-append found (i ∷ []), w.if-len-lt16.true, w.len.ensures);
-            found = subst (λ l. take 16 (l ++ roots_from locator (i + 1) (544 - (i + 1))) ≡ all) (sym items)
-                (found_root locator found all 544 i c.loop-i-test.true root h.found);
+            found = subst (P c.if-is_zero.places.items) up (subst (λ l. P l (i + 1)) (sym items)
+                (found_root locator found all n i w.if-place-count.true root h.found));
           }
       | else-is_zero w ↦
           let items : c.if-is_zero.places.items ≡ found = ap (λ v. v.items) w.places-is in
           let few : length c.if-is_zero.places.items ≤ 16 = subst (λ l. length l ≤ 16) (sym items) h.room in
-          let same : take 16 (found ++ roots_from locator (i + 1) (544 - (i + 1))) ≡ all = elim w.else-is_zero.branch [
-            | else-is_zero-via-then-is_zero+else-len-lt16 v ↦
-                found_enough locator found all 544 i (omega (arith, v.if-len-lt16.false, v.len.ensures)) h.found
+          let same : P found (i + 1) = elim w.else-is_zero.branch [
+            | else-is_zero-via-then-is_zero+then-place-count+else-len-lt16 v ↦
+                found_enough locator found all n i (omega (arith, v.if-len-lt16.false, v.len.ensures)) h.found
+            | else-is_zero-via-then-is_zero+else-place-count v ↦
+                found_past locator found all n i v.if-place-count.false h.found
             | else-is_zero-via-else-is_zero v ↦
-                found_none locator found all 544 i c.loop-i-test.true
+                found_other locator found all n i
                 (root_test (value gf locator (back_power i))
-                (λ e. false≢true (sym v.if-is_zero.false ∙ c.is_zero.ensures.1 (total ∙ e)))) h.found
+                (λ e. false≢true (sym v.if-is_zero.false ∙ c.is_zero.ensures.1 (root_value ∙ e)))) h.found
           ] in
           record {
-            terms = next;
             room = few;
-            found = subst (λ l. take 16 (l ++ roots_from locator (i + 1) (544 - (i + 1))) ≡ all) (sym items) same;
+            found = subst (P c.if-is_zero.places.items) up (subst (λ l. P l (i + 1)) (sym items) same);
           }
     ]
 
 pub returns : goal.returns
 returns c =
-    found_last c.args.locator.now c.loop-i.places.items (take 16 (roots_below 544 c.args.locator.now)) 544 c.loop-i.i
-    c.loop-i-test.false c.loop-i.invariant.room c.loop-i.invariant.found
+    found_last c.args.locator.now c.loop-row.places.items (take 16 (roots_below c.args.count c.args.locator.now)) c.args.count (32 * c.loop-row.row)
+    (omega (arith, c.loop-row-test.false)) c.loop-row.invariant.room c.loop-row.invariant.found

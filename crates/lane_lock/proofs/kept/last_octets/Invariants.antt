@@ -1,0 +1,9 @@
+use Rattle.std.proofs.Common.{◌≡◌, ℕ, ◌+◌, ◌<◌, length, get_or}
+use Rattle.lane_lock.proofs.kept.last_octets.Given as goal
+
+abbrev pub invariant-loop-i : goal.invariant-loop-i
+invariant-loop-i l = record {
+  size : length l.octets ≡ 16;
+  done : (k : ℕ) → k < l.i → get_or l.octets k 0 ≡ get_or l.kept.items (l.first + k) 0;
+  last : get_or l.octets 15 0 ≡ l.octet;
+}

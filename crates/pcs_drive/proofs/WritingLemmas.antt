@@ -1,0 +1,66 @@
+-- Text of which a part isn't written yet.
+use Rattle.std.proofs.Common.{◌≡◌, ℕ, ◌+◌, ◌≤◌, List, [], ◌++◌, take, length, Option, Some, None, sym, ◌∙◌, ap, refl, append_assoc, append-nil, length-append, arith}
+use Rattle.std.proofs.Math.Seq.{take-append-add}
+use Rattle.std.proofs.lemmas.List.{take-append-le}
+use Rattle.std.specs.Io.KnownBytes.{Appends}
+use Rattle.pcs_io.specs.Octets.{AppendsFront}
+use Rattle.pcs_io.proofs.Told.{appends-append, appends-none}
+use Rattle.pcs_drive.specs.Writing.{Wrote}
+
+pub wrote-start : (start : Option (List ℕ)) → Wrote start start [] []
+wrote-start start = record { written = []; appended = appends-none start; joined = refl }
+
+pub wrote-none : (start : Option (List ℕ)) (text pending : List ℕ) → text ≡ [] → pending ≡ [] → Wrote start start text pending
+wrote-none start text pending none empty = rw (none, empty) (wrote-start start)
+
+-- all of a text is pending
+pub wrote-pending : (start : Option (List ℕ)) (text pending : List ℕ) → text ≡ pending → Wrote start start text pending
+wrote-pending start text pending is = record { written = []; appended = appends-none start; joined = is }
+
+-- more text stands behind
+pub wrote-more : (start now : Option (List ℕ)) (text pending more : List ℕ) → Wrote start now text pending
+    → Wrote start now (text ++ more) (pending ++ more)
+wrote-more start now text pending more w = record {
+  written = w.written;
+  appended = w.appended;
+  joined = ap (λ t. t ++ more) w.joined ∙ append_assoc w.written pending more;
+}
+
+-- all that was pending is written
+pub wrote-flushed : (start held now : Option (List ℕ)) (text pending : List ℕ) → Wrote start held text pending → Appends held now pending
+    → Wrote start now text []
+wrote-flushed start held now text pending w a = record {
+  written = w.written ++ pending;
+  appended = appends-append start held now w.written pending w.appended a;
+  joined = w.joined ∙ sym (append-nil (w.written ++ pending));
+}
+
+pub wrote-all : (start now : Option (List ℕ)) (text : List ℕ) → Wrote start now text [] → Appends start now text
+wrote-all None now text w = tt
+wrote-all (Some before) None text w = absurd w.appended
+wrote-all (Some before) (Some after) text w = w.appended ∙ ap (λ t. before ++ t) (sym (w.joined ∙ append-nil w.written))
+
+-- a front of what was pending is written
+pub wrote-front : (start held now : Option (List ℕ)) (text pending : List ℕ) → Wrote start held text pending → AppendsFront held now pending
+    → AppendsFront start now text
+wrote-front None held now text pending w a = tt
+wrote-front (Some before) None now text pending w a = absurd w.appended
+wrote-front (Some before) (Some held) None text pending w a = tt
+wrote-front (Some before) (Some held) (Some after) text pending w a = (
+  length w.written + a.0,
+  omega (arith, a.1, ap length w.joined, length-append w.written pending),
+  a.2 ∙ ap (λ h. h ++ take a.0 pending) w.appended ∙ append_assoc before w.written (take a.0 pending)
+      ∙ ap (λ t. before ++ t) (sym (ap (take (length w.written + a.0)) w.joined ∙ take-append-add w.written pending a.0)),
+)
+
+-- a front of a text is one of a longer text
+pub front-more : (start now : Option (List ℕ)) (text more : List ℕ) → AppendsFront start now text → AppendsFront start now (text ++ more)
+front-more None now text more a = tt
+front-more (Some before) None text more a = tt
+front-more (Some before) (Some after) text more a =
+    let within : a.0 ≤ length text = a.1 in
+    (a.0, omega (arith, a.1, length-append text more), a.2 ∙ ap (λ t. before ++ t) (rw take-append-le refl))
+
+pub front-start : (start : Option (List ℕ)) (text : List ℕ) → AppendsFront start start text
+front-start None text = tt
+front-start (Some before) text = (0, omega arith, sym (append-nil before))

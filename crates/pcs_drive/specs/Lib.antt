@@ -1,0 +1,6 @@
+pub mod Outcomes
+pub mod Seen
+pub mod Writing
+pub mod LineCommand
+pub mod CaptureCommand
+pub mod Tasks

@@ -1,0 +1,74 @@
+-- What is seen of the source and the sink of a run.
+use Rattle.std.specs.Prelude.{◌≡◌, ℕ, Bool, IsTrue, List, [], ◌++◌, Option, IfSome}
+use Rattle.pcs_io.specs.Faults.{Rose}
+use Rattle.pcs_io.specs.Octets.{TakesWhereTold}
+
+-- what the source has left, before and after, and whether its end was given; how often its reads failed; what the sink holds; how often its writes failed
+pub record Seen : Type 0 where
+  pub left_before : Option (List ℕ)
+  pub left_after : Option (List ℕ)
+  pub ended : Bool
+  pub reads_before : ℕ
+  pub reads_after : ℕ
+  pub held_before : Option (List ℕ)
+  pub held_after : Option (List ℕ)
+  pub writes_before : ℕ
+  pub writes_after : ℕ
+
+-- by the meanings of the source's and the sink's types, and their values before and after
+abbrev pub seen : {R W : Type 0} → (R → Option (List ℕ)) → (R → Bool) → (R → ℕ) → (W → Option (List ℕ)) → (W → ℕ) → R → R → W → W → Seen
+seen left ended reads held writes source_before source_after sink_before sink_after = record {
+  left_before = left source_before;
+  left_after = left source_after;
+  ended = ended source_after;
+  reads_before = reads source_before;
+  reads_after = reads source_after;
+  held_before = held sink_before;
+  held_after = held sink_after;
+  writes_before = writes sink_before;
+  writes_after = writes sink_after;
+}
+
+-- where the sink, which holds this and had so many failures, was not touched
+abbrev pub reads_only : {R : Type 0} → (R → Option (List ℕ)) → (R → Bool) → (R → ℕ) → R → R → Option (List ℕ) → ℕ → Seen
+reads_only left ended reads source_before source_after held writes = record {
+  left_before = left source_before;
+  left_after = left source_after;
+  ended = ended source_after;
+  reads_before = reads source_before;
+  reads_after = reads source_after;
+  held_before = held;
+  held_after = held;
+  writes_before = writes;
+  writes_after = writes;
+}
+
+-- these octets were taken, where the source tells before and after
+abbrev pub Took : Seen → List ℕ → Type 0
+Took seen octets = TakesWhereTold seen.left_before seen.left_after octets
+
+-- these octets were taken, and the source has ended behind them
+pub record TookAll (seen : Seen) (octets : List ℕ) : Type 0 where
+  pub took : Took seen octets
+  pub nothing : IfSome seen.left_after (λ left. left ≡ [])
+  pub ended : IsTrue seen.ended
+
+-- this text was written, where the sink tells before and after
+abbrev pub Written : Seen → List ℕ → Type 0
+Written seen text = IfSome seen.held_before (λ before. IfSome seen.held_after (λ after. after ≡ before ++ text))
+
+-- nothing was taken or written
+pub record Untouched (seen : Seen) : Type 0 where
+  pub left : seen.left_after ≡ seen.left_before
+  pub held : seen.held_after ≡ seen.held_before
+
+-- a read or a write failed
+abbrev pub ReadFailed : Seen → Type 0
+ReadFailed seen = Rose seen.reads_before seen.reads_after
+
+abbrev pub WriteFailed : Seen → Type 0
+WriteFailed seen = Rose seen.writes_before seen.writes_after
+
+-- the same, from what the sink held at an earlier start
+abbrev pub since : Option (List ℕ) → Seen → Seen
+since start seen = record seen { held_before = start }

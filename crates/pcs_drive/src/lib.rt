@@ -1,0 +1,18 @@
+//! What the commands of the program share: text that is gathered and written in large pieces, how a
+//! command ended, and the loop over the beats of a capture.
+#![tactic(auto)]
+
+mod driver;
+mod opening;
+mod outcome;
+mod output;
+mod task;
+
+pub use driver::drive;
+pub use opening::open_capture;
+pub use outcome::Outcome;
+pub use output::Output;
+pub use task::Task;
+
+/// The number of octets from which on an input is too long.
+pub const LIMIT: u64 = 1 << 40;

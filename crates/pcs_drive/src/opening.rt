@@ -1,0 +1,26 @@
+// The header of a capture.
+ghost use Rattle.std.specs.Prelude.{◌≤◌, ℕ, List, Option, IfOk, IfErr};
+ghost use Rattle.pcs_io.specs.Headers.{IsInRange};
+ghost use Rattle.pcs_drive.specs.Seen.{reads_only};
+ghost use Rattle.pcs_drive.specs.CaptureCommand.{CaptureText, FromCapture, HasOpened};
+
+use crate::{LIMIT, Outcome};
+use pcs_io::{Beats, Header, Source};
+use std::alloc::Global;
+
+/// Opens a reader of captures and reads the header. `Err` is how the command ends then.
+pub fn open_capture<R: Source>(alloc: Global, source: &mut R) -> Result<(Beats, Header), Outcome>
+    ensures ok { IfOk result (λ opened. HasOpened opened.0 opened.1 (R.left source.old) (R.left source.new)) }
+    ensures range { IfOk result (λ opened. IsInRange opened.1) }
+    ensures err { IfErr result (λ outcome. (text : CaptureText) (held : Option (List ℕ)) (writes : ℕ)
+        → FromCapture text (reads_only R.left R.ended R.faults source.old source.new held writes) outcome) }
+    ensures later { R.faults source.old ≤ R.faults source.new }
+{
+    let Ok(mut beats) = Beats::open(alloc, LIMIT) else {
+        return Err(Outcome::NoMemory);
+    };
+    match beats.header(source) {
+        Ok(header) => Ok((beats, header)),
+        Err(fault) => Err(Outcome::from(fault)),
+    }
+}

@@ -1,0 +1,3 @@
+pub mod Reports
+mod Sums
+pub mod Told
