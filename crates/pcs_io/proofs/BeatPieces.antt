@@ -1,5 +1,5 @@
 -- Octets in pieces of sixteen.
-use Rattle.std.proofs.Common.{◌≡◌, ℕ, zero, suc, ◌+◌, ◌*◌, ◌<◌, ◌≤◌, Bool, true, false, List, [], ◌∷◌, ◌++◌, length, take, drop, refl, sym, ap, ap₂, ◌∙◌, inl, inr, subst, cond, arith, append_assoc, append-nil, length-append, length-take, length-drop}
+use Rattle.std.proofs.Common.{◌≡◌, ℕ, zero, suc, ◌+◌, ◌*◌, ◌<◌, ◌≤◌, List, [], ◌∷◌, ◌++◌, length, take, drop, refl, sym, ap, ap₂, ◌∙◌, inl, inr, subst, cond, arith, append_assoc, append-nil, length-append, length-take, length-drop}
 use Rattle.std.specs.Prelude.{nat_le}
 use Rattle.std.specs.List.{flat_map}
 use Rattle.std.proofs.lemmas.Bool.{cases_Bool, leb-true, leb-false}
@@ -7,7 +7,7 @@ use Rattle.std.proofs.lemmas.List.{take-append-drop, drop_all, drop-drop}
 use Rattle.std.proofs.Math.Seq.{take-append_seam, drop-append_seam}
 use Rattle.pcs_io.specs.Parsing.{Parses}
 use Rattle.pcs_io.specs.declared.parser.Step.TheVariants.{More, Whole}
-use Rattle.pcs_io.specs.Grammars.{LineAt, Line, Refused, Open, Begins}
+use Rattle.pcs_io.specs.Grammars.{Line, Refused, Open, Begins}
 use Rattle.pcs_io.specs.Beats.{beat_at, part_at, beat-whole}
 use Rattle.pcs_io.specs.declared.fault.Kind.{Kind}
 
@@ -74,7 +74,7 @@ pieces-split octets (piece ∷ pieces) others rest b =
     (later.0, (b.0, b.1, later.1), later.2)
 
 -- a piece in front
-beat-front : (front rest : List ℕ) → length front ≡ 16 → beat_at (front ++ rest) ≡ Line front rest
+pub beat-front : (front rest : List ℕ) → length front ≡ 16 → beat_at (front ++ rest) ≡ Line front rest
 beat-front front rest sixteen =
     beat-whole (front ++ rest) (omega (arith, sixteen, length-append front rest))
     ∙ ap₂ (λ f r. Line f r)

@@ -1,18 +1,18 @@
 -- How many octets a header has.
-use Rattle.std.proofs.Common.{◌≡◌, ℕ, ◌+◌, ◌*◌, ◌<◌, ◌≤◌, Bool, true, false, cond, List, [], ◌∷◌, ◌++◌, length, take, drop, Option, Some, None, Result, Ok, Err, refl, sym, ◌∙◌, ap, subst, arith, inl, inr, append-nil, length-drop, length-append}
-use Rattle.std.specs.Prelude.{nat_le}
+use Rattle.std.proofs.Common.{◌≡◌, ℕ, ◌+◌, ◌<◌, ◌≤◌, Bool, true, false, cond, List, [], ◌++◌, length, take, drop, Result, Ok, Err, sym, ◌∙◌, ap, subst}
+use Rattle.std.proofs.Common.{arith, inl, inr, append-nil, length-drop, length-append}
 use Rattle.std.specs.List.{flat_map}
-use Rattle.std.proofs.lemmas.Bool.{cases_lt, le-leb, cases_Bool, leb-false}
+use Rattle.std.proofs.lemmas.Bool.{cases_lt, le-leb}
 use Rattle.pcs_io.specs.Beats.{beat_at}
 use Rattle.pcs_io.specs.Grammars.{Begins}
 use Rattle.pcs_io.specs.Headers.{header_of, header2_of}
 use Rattle.pcs_io.specs.Histories as lines
-use Rattle.pcs_io.specs.Captures.{FrontAt, Whole, Wrong, Short, settled, header_at, is_version2, History, Going, BeatsState, Stands, StandsAt, IsHeaderOf}
+use Rattle.pcs_io.specs.Captures.{Whole, Short, settled, header_at, is_version2, History, Going, BeatsState, Stands, StandsAt}
 use Rattle.pcs_io.specs.declared.header.Header.{Header}
 use Rattle.pcs_io.specs.declared.header.BadHeader.{BadHeader}
 use Rattle.pcs_io.specs.declared.beats.Front.TheVariants as front
 use Rattle.pcs_io.specs.declared.reader.Standing.TheVariants as reader
-use Rattle.pcs_io.proofs.BeatPieces.{pieces-length, pieces-parts}
+use Rattle.pcs_io.proofs.BeatPieces.{pieces-parts}
 use Rattle.pcs_io.proofs.CaptureCalls.{going-of}
 
 -- octets that are short of a header
@@ -59,11 +59,11 @@ pub few-taken : (x : BeatsState) (h : History) (header : Header) → Stands x h 
     → length h.octets ≤ 32 + length x.reader.buffer.unused
 few-taken x h header s read none course =
     let at = subst (λ f. StandsAt f s.standing s.pieces h) read s.at in
-    let going : s.standing ≡ reader.Going = going-of s.standing (length h.octets) (sym at.2 ∙ course) in
+    let going : s.standing ≡ reader.Going = going-of s.standing (length h.octets) (sym at.1 ∙ course) in
     let unused = x.reader.buffer.unused in
     let begins : Begins beat_at h.octets (s.pieces ++ h.beats) unused =
     subst (λ st. lines.IsUnused beat_at st (record { limit = h.limit; octets = h.octets; lines = s.pieces ++ h.beats; standing = s.standing }) unused) going s.read.unused in
     let pieces : Begins beat_at h.octets s.pieces unused = subst (λ ps. Begins beat_at h.octets ps unused) (ap (λ bs. s.pieces ++ bs) none ∙ append-nil s.pieces) begins in
     let joined = flat_map (λ piece. piece) s.pieces in
-    let few : length (joined ++ []) ≤ 32 = only-header (joined ++ []) header (at.1 []) in
+    let few : length (joined ++ []) ≤ 32 = only-header (joined ++ []) header (at.0 []) in
     omega (arith, few, length-append joined [], ap length (pieces-parts h.octets s.pieces unused pieces), length-append joined unused)

@@ -1,17 +1,22 @@
--- What a reader of captures was opened with, what it has taken and what it has answered.
-use Rattle.std.specs.Prelude.{◌≡◌, ℕ, ◌*◌, ◌/◌, ◌%◌, ◌<◌, ◌⊎◌, Bool, nat_le, bytes_eq, if◌then◌else◌, List, [], ◌∷◌, ◌++◌, length, take, drop, codes, Option, Some, None, Result, Ok, Err, true, false}
+-- What a reader of captures was opened with, what it has taken and what it has answered. It reads captures and files of levels: these have
+-- beats behind a header of another kind. A definition whose name ends in `By` takes what says which header some octets begin with.
+use Rattle.std.specs.Prelude.{◌≡◌, ℕ, ◌*◌, ◌/◌, ◌%◌, ◌<◌, ◌⊎◌, Bool, nat_le, bytes_eq, if◌then◌else◌, List, [], ◌∷◌, ◌++◌, length, take, drop, codes}
+use Rattle.std.specs.Prelude.{Option, Some, None, Result, Ok, Err, true, false}
 use Rattle.std.specs.List.{flat_map}
+use Rattle.std.proofs.Common.{inl, inr}
 use Rattle.std.specs.Io.KnownBytes.{Consumes}
 use Rattle.pcs_io.specs.Octets.{TakesWhereTold}
 use Rattle.pcs_io.specs.Grammars.{Begins}
 use Rattle.pcs_io.specs.Beats.{beat_at, BeatParserState}
 use Rattle.pcs_io.specs.Headers.{header_of, header2_of}
+use Rattle.pcs_io.specs.LevelsHeaders.{levels_header_of}
 use Rattle.pcs_io.specs.Histories.{ReaderState, Ends, octets_ahead}
 use Rattle.pcs_io.specs.Histories as lines
 use Rattle.pcs_io.specs.declared.fault.InFault.{InFault}
 use Rattle.pcs_io.specs.declared.fault.InFault.TheVariants as fault
 use Rattle.pcs_io.specs.declared.header.Header.{Header}
 use Rattle.pcs_io.specs.declared.header.BadHeader.{BadHeader}
+use Rattle.pcs_io.specs.declared.levels_header.LevelsHeader.{LevelsHeader}
 use Rattle.pcs_io.specs.declared.reader.Standing.{Standing}
 use Rattle.pcs_io.specs.declared.reader.Standing.TheVariants as reader
 use Rattle.pcs_io.specs.declared.beats.BeatIn.{BeatIn}
@@ -22,15 +27,15 @@ use Rattle.pcs_io.specs.declared.beats.Front.{Front}
 use Rattle.pcs_io.specs.declared.beats.Front.TheVariants as front
 
 -- what some octets begin with
-pub data FrontAt : Type 0 where
+pub data FrontAt (X : Type 0) : Type 0 where
   -- a header, and what comes after it
-  Whole : (header : Header) (rest : List ℕ) → FrontAt
+  Whole : (header : X) (rest : List ℕ) → FrontAt X
   -- sixteen or thirty-two octets that are no header
-  Wrong : (bad : BadHeader) → FrontAt
+  Wrong : (bad : BadHeader) → FrontAt X
   -- the header isn't whole
-  Short : FrontAt
+  Short : FrontAt X
 
-abbrev pub settled : Result Header BadHeader → List ℕ → FrontAt
+abbrev pub settled : {X : Type 0} → Result X BadHeader → List ℕ → FrontAt X
 settled (Ok header) rest = Whole header rest
 settled (Err bad) rest = Wrong bad
 
@@ -38,21 +43,31 @@ settled (Err bad) rest = Wrong bad
 abbrev pub is_version2 : List ℕ → Bool
 is_version2 octets = bytes_eq (take 5 octets) (codes "P4LC" ++ 2 ∷ [])
 
--- a header has sixteen octets, and thirty-two behind the magic and 2
-unfoldable pub header_at : List ℕ → FrontAt
+-- a header of a capture has sixteen octets, and thirty-two behind the magic and 2
+unfoldable pub header_at : List ℕ → FrontAt Header
 header_at octets =
     if nat_le 16 (length octets) then
     (if is_version2 octets then (if nat_le 32 (length octets) then settled (header2_of (take 32 octets)) (drop 32 octets) else Short)
     else settled (header_of (take 16 octets)) (drop 16 octets))
     else Short
 
+-- one of a file of levels always has thirty-two
+unfoldable pub levels_header_at : List ℕ → FrontAt LevelsHeader
+levels_header_at octets = if nat_le 32 (length octets) then settled (levels_header_of (take 32 octets)) (drop 32 octets) else Short
+
 -- the octets are this header, these beats of sixteen octets, and then the rest
+abbrev pub OpensBy : {X : Type 0} → (List ℕ → FrontAt X) → List ℕ → X → List (List ℕ) → List ℕ → Type 0
+OpensBy at octets header beats rest = (behind : List ℕ) × (at octets ≡ Whole header behind) × Begins beat_at behind beats rest
+
 abbrev pub Opens : List ℕ → Header → List (List ℕ) → List ℕ → Type 0
-Opens octets header beats rest = (behind : List ℕ) × (header_at octets ≡ Whole header behind) × Begins beat_at behind beats rest
+Opens octets header beats rest = OpensBy header_at octets header beats rest
 
 -- the same, and the rest is no whole beat
+abbrev pub OpensWholeBy : {X : Type 0} → (List ℕ → FrontAt X) → List ℕ → X → List (List ℕ) → ℕ → Type 0
+OpensWholeBy at octets header beats over = (rest : List ℕ) × OpensBy at octets header beats rest × (length rest ≡ over) × (over < 16)
+
 abbrev pub OpensWhole : List ℕ → Header → List (List ℕ) → ℕ → Type 0
-OpensWhole octets header beats over = (rest : List ℕ) × Opens octets header beats rest × (length rest ≡ over) × (over < 16)
+OpensWhole octets header beats over = OpensWholeBy header_at octets header beats over
 
 -- how the calls went: none was made, they go on, the input ended so many octets after its last whole beat, or a fault was answered
 pub data Course : Type 0 where
@@ -61,26 +76,25 @@ pub data Course : Type 0 where
   Ended : ℕ → Course
   Failed : CapFault → Course
 
--- the limit, all octets taken, the header and the beats answered, and how the calls went
+-- the limit, all octets taken, the beats answered, and how the calls went
 pub record History : Type 0 where
   pub limit : ℕ
   pub octets : List ℕ
-  pub header : Option Header
   pub beats : List (List ℕ)
   pub course : Course
 
 -- nothing is taken or answered yet
 abbrev pub opened : ℕ → History
-opened limit = record { limit = limit; octets = []; header = None; beats = []; course = Unread }
+opened limit = record { limit = limit; octets = []; beats = []; course = Unread }
 
 -- the reader of pieces of sixteen octets, and whether the header was read
 pub record BeatsState : Type 0 where
   pub reader : ReaderState BeatParserState
   pub front : Front
 
--- with a call of `header`, which took these octets and answered so
-abbrev pub header_told : History → List ℕ → Result Header CapFault → History
-header_told h got (Ok header) = record h { octets = h.octets ++ got; header = Some header; course = Going }
+-- with a call of `header` or `levels_header`, which took these octets and answered so
+abbrev pub header_told : {X : Type 0} → History → List ℕ → Result X CapFault → History
+header_told h got (Ok header) = record h { octets = h.octets ++ got; course = Going }
 header_told h got (Err fault) = record h { octets = h.octets ++ got; course = Failed fault }
 
 -- with a call of `next`
@@ -98,14 +112,15 @@ course_of (reader.Failed (fault.BadLine number kind)) taken = Ended (taken % 16)
 course_of (reader.Failed fault.TooLong) taken = Failed cap.TooLong
 
 -- the pieces of the header are read as it, whatever follows them
-abbrev pub IsHeaderOf : List (List ℕ) → Header → Type 0
-IsHeaderOf pieces header = (rest : List ℕ) → header_at (flat_map (λ piece. piece) pieces ++ rest) ≡ Whole header rest
+abbrev pub IsHeaderBy : {X : Type 0} → (List ℕ → FrontAt X) → List (List ℕ) → X → Type 0
+IsHeaderBy at pieces header = (rest : List ℕ) → at (flat_map (λ piece. piece) pieces ++ rest) ≡ Whole header rest
 
 -- what the state says of the header and of the calls
 abbrev pub StandsAt : Front → Standing → List (List ℕ) → History → Type 0
 StandsAt front.Unread standing pieces h = (pieces ≡ []) × (standing ≡ reader.Going) × (h ≡ opened h.limit)
 StandsAt front.Refused standing pieces h = Unit {0}
-StandsAt (front.Read header) standing pieces h = (h.header ≡ Some header) × IsHeaderOf pieces header × (h.course ≡ course_of standing (length h.octets))
+StandsAt (front.Read header) standing pieces h = IsHeaderBy header_at pieces header × (h.course ≡ course_of standing (length h.octets))
+StandsAt (front.ReadLevels header) standing pieces h = IsHeaderBy levels_header_at pieces header × (h.course ≡ course_of standing (length h.octets))
 
 -- the state is the one that the history leaves
 pub record Stands (x : BeatsState) (h : History) : Type 0 where
@@ -114,43 +129,57 @@ pub record Stands (x : BeatsState) (h : History) : Type 0 where
   pub read : lines.Stands beat_at x.reader (record { limit = h.limit; octets = h.octets; lines = pieces ++ h.beats; standing = standing })
   pub at : StandsAt x.front standing pieces h
 
--- what `header` answers, where it took these octets: `before` and `now` are what the source has left, and `ended` tells whether its end was given
+-- what `header` or `levels_header` answers, where it took these octets: `before` and `now` are what the source has left, and `ended` tells
+-- whether its end was given
+abbrev pub HeaderAnswersBy : {X : Type 0} → (List ℕ → FrontAt X) → ℕ → List ℕ → Option (List ℕ) → Option (List ℕ) → Bool → Result X CapFault → Type 0
+HeaderAnswersBy at limit got before now ended (Ok header) = Consumes before now got × (rest : List ℕ) × (at got ≡ Whole header rest)
+HeaderAnswersBy at limit got before now ended (Err cap.Read) = TakesWhereTold before now got × (at got ≡ Short)
+HeaderAnswersBy at limit got before now ended (Err (cap.BadHeader bad)) =
+    (Consumes before now got × (at got ≡ Wrong bad))
+    ⊎ ((bad ≡ record { place = length got; cut = true }) × Ends before now ended got × (length got < limit) × (at got ≡ Short))
+HeaderAnswersBy at limit got before now ended (Err cap.TooLong) = Consumes before now got × (length got ≡ limit) × (at got ≡ Short)
+
 abbrev pub HeaderAnswers : ℕ → List ℕ → Option (List ℕ) → Option (List ℕ) → Bool → Result Header CapFault → Type 0
-HeaderAnswers limit got before now ended (Ok header) = Consumes before now got × (rest : List ℕ) × (header_at got ≡ Whole header rest)
-HeaderAnswers limit got before now ended (Err cap.Read) = TakesWhereTold before now got × (header_at got ≡ Short)
-HeaderAnswers limit got before now ended (Err (cap.BadHeader bad)) =
-    (Consumes before now got × (header_at got ≡ Wrong bad))
-    ⊎ ((bad ≡ record { place = length got; cut = true }) × Ends before now ended got × (length got < limit) × (header_at got ≡ Short))
-HeaderAnswers limit got before now ended (Err cap.TooLong) = Consumes before now got × (length got ≡ limit) × (header_at got ≡ Short)
+HeaderAnswers limit got before now ended answer = HeaderAnswersBy header_at limit got before now ended answer
 
 -- what `next` answers, behind this header
+abbrev pub BeatAnswersBy : {X : Type 0} → (List ℕ → FrontAt X) → History → X → List ℕ → Option (List ℕ) → Option (List ℕ) → Bool → Result BeatIn CapFault → Type 0
+BeatAnswersBy at h header got before now ended (Ok (Beat beat)) =
+    Consumes before now got × (rest : List ℕ) × OpensBy at (h.octets ++ got) header (h.beats ++ beat ∷ []) rest
+BeatAnswersBy at h header got before now ended (Ok (End over)) =
+    Ends before now ended got × (length (h.octets ++ got) < h.limit) × OpensWholeBy at (h.octets ++ got) header h.beats over
+BeatAnswersBy at h header got before now ended (Err cap.Read) =
+    TakesWhereTold before now got × (over : ℕ) × OpensWholeBy at (h.octets ++ got) header h.beats over
+BeatAnswersBy at h header got before now ended (Err (cap.BadHeader bad)) = ⊥
+BeatAnswersBy at h header got before now ended (Err cap.TooLong) =
+    Consumes before now got × (length (h.octets ++ got) ≡ h.limit) × (over : ℕ) × OpensWholeBy at (h.octets ++ got) header h.beats over
+
 abbrev pub BeatAnswers : History → Header → List ℕ → Option (List ℕ) → Option (List ℕ) → Bool → Result BeatIn CapFault → Type 0
-BeatAnswers h header got before now ended (Ok (Beat beat)) =
-    Consumes before now got × (rest : List ℕ) × Opens (h.octets ++ got) header (h.beats ++ beat ∷ []) rest
-BeatAnswers h header got before now ended (Ok (End over)) =
-    Ends before now ended got × (length (h.octets ++ got) < h.limit) × OpensWhole (h.octets ++ got) header h.beats over
-BeatAnswers h header got before now ended (Err cap.Read) =
-    TakesWhereTold before now got × (over : ℕ) × OpensWhole (h.octets ++ got) header h.beats over
-BeatAnswers h header got before now ended (Err (cap.BadHeader bad)) = ⊥
-BeatAnswers h header got before now ended (Err cap.TooLong) =
-    Consumes before now got × (length (h.octets ++ got) ≡ h.limit) × (over : ℕ) × OpensWhole (h.octets ++ got) header h.beats over
+BeatAnswers h header got before now ended answer = BeatAnswersBy header_at h header got before now ended answer
 
 -- a call of `next`: after the end or a fault it answers the same again, and does nothing
+abbrev pub TellsBy : {X : Type 0} → (List ℕ → FrontAt X) → Course → History → X → BeatsState → BeatsState → Option (List ℕ) → Option (List ℕ) → Bool → Result BeatIn CapFault → Type 0
+TellsBy at Unread h header old new before now ended answer = ⊥
+TellsBy at Going h header old new before now ended answer =
+    (got : List ℕ) × BeatAnswersBy at h header got before now ended answer × Stands new (beat_told h got answer)
+TellsBy at (Ended over) h header old new before now ended answer = (answer ≡ Ok (End over)) × (new ≡ old) × (now ≡ before)
+TellsBy at (Failed fault) h header old new before now ended answer = (answer ≡ Err fault) × (new ≡ old) × (now ≡ before)
+
 abbrev pub Tells : Course → History → Header → BeatsState → BeatsState → Option (List ℕ) → Option (List ℕ) → Bool → Result BeatIn CapFault → Type 0
-Tells Unread h header old new before now ended answer = ⊥
-Tells Going h header old new before now ended answer = (got : List ℕ) × BeatAnswers h header got before now ended answer × Stands new (beat_told h got answer)
-Tells (Ended over) h header old new before now ended answer = (answer ≡ Ok (End over)) × (new ≡ old) × (now ≡ before)
-Tells (Failed fault) h header old new before now ended answer = (answer ≡ Err fault) × (new ≡ old) × (now ≡ before)
+Tells course h header old new before now ended answer = TellsBy header_at course h header old new before now ended answer
 
 -- the octets of the whole beats in front of some octets
 abbrev pub whole_front : List ℕ → List ℕ
 whole_front octets = take (length octets / 16 * 16) octets
 
 -- all the beats among the unused octets are answered at once, and nothing is read
-abbrev pub Passes : List ℕ → History → Header → BeatsState → Type 0
-Passes unused h header new =
+abbrev pub PassesBy : {X : Type 0} → (List ℕ → FrontAt X) → List ℕ → History → X → BeatsState → Type 0
+PassesBy at unused h header new =
     (beats : List (List ℕ)) × (flat_map (λ beat. beat) beats ≡ whole_front unused)
-    × ((rest : List ℕ) × Opens h.octets header (h.beats ++ beats) rest) × Stands new (record h { beats = h.beats ++ beats })
+    × ((rest : List ℕ) × OpensBy at h.octets header (h.beats ++ beats) rest) × Stands new (record h { beats = h.beats ++ beats })
+
+abbrev pub Passes : List ℕ → History → Header → BeatsState → Type 0
+Passes unused h header new = PassesBy header_at unused h header new
 
 -- a beat brings the end nearer
 abbrev pub IsNearerEnd : BeatsState → BeatsState → Result BeatIn CapFault → Type 0
@@ -159,10 +188,11 @@ IsNearerEnd old new (Ok (End over)) = Unit {0}
 IsNearerEnd old new (Err fault) = Unit {0}
 
 -- the header that was read, and none before or where it was refused
-abbrev pub header_read : Front → Option Header
+abbrev pub header_read : Front → Option (Header ⊎ LevelsHeader)
 header_read front.Unread = None
 header_read front.Refused = None
-header_read (front.Read header) = Some header
+header_read (front.Read header) = Some (inl header)
+header_read (front.ReadLevels header) = Some (inr header)
 
 -- what a piece of the header is, by the answer of the reader of pieces and the number of octets taken
 abbrev pub piece_of : Result (Option (List ℕ)) InFault → ℕ → Result (List ℕ) CapFault
@@ -180,7 +210,7 @@ beat_of (Err fault.Read) taken = Err cap.Read
 beat_of (Err (fault.BadLine number kind)) taken = Ok (End (taken % 16))
 beat_of (Err fault.TooLong) taken = Err cap.TooLong
 
-abbrev pub refusal_of : Result Header BadHeader → Result Header CapFault
+abbrev pub refusal_of : {X : Type 0} → Result X BadHeader → Result X CapFault
 refusal_of (Ok header) = Ok header
 refusal_of (Err bad) = Err (cap.BadHeader bad)
 
@@ -190,9 +220,9 @@ ReadsPiece old new before now ended result =
     (answer : Result (Option (List ℕ)) InFault) × lines.Nexts beat_at old new before now ended answer × (result ≡ piece_of answer new.buffer.taken)
 
 -- the header of both pieces
-abbrev pub by_both : List ℕ → Result (List ℕ) CapFault → Result Header CapFault
-by_both front (Ok behind) = refusal_of (header2_of (front ++ behind))
-by_both front (Err fault) = Err fault
+abbrev pub by_both : {X : Type 0} → (List ℕ → Result X BadHeader) → List ℕ → Result (List ℕ) CapFault → Result X CapFault
+by_both both_of front (Ok behind) = refusal_of (both_of (front ++ behind))
+by_both both_of front (Err fault) = Err fault
 
 -- nothing more was read
 pub record Rests (old new : ReaderState BeatParserState) (before now : Option (List ℕ)) (ended_before ended : Bool) : Type 0 where
@@ -200,18 +230,35 @@ pub record Rests (old new : ReaderState BeatParserState) (before now : Option (L
   pub source : now ≡ before
   pub end : ended ≡ ended_before
 
+-- a second piece is read behind the first one
+abbrev pub ReadsSecond : {X : Type 0} → (List ℕ → Result X BadHeader) → ReaderState BeatParserState → ReaderState BeatParserState → Option (List ℕ) → Option (List ℕ) → Bool
+    → List ℕ → Result X CapFault → Type 0
+ReadsSecond both_of mid new between now ended front result =
+    (second : Result (List ℕ) CapFault) × ReadsPiece mid new between now ended second × (result ≡ by_both both_of front second)
+
 -- what comes behind the first piece: behind the magic and the version 2 a second one is read
 abbrev pub ReadsOn : ReaderState BeatParserState → ReaderState BeatParserState → Option (List ℕ) → Option (List ℕ) → Bool → Bool → Result (List ℕ) CapFault → Result Header CapFault → Type 0
 ReadsOn mid new between now soon ended (Ok front) result =
     ((is_version2 front ≡ false) × Rests mid new between now soon ended × (result ≡ refusal_of (header_of front)))
-    ⊎ ((is_version2 front ≡ true) × (second : Result (List ℕ) CapFault) × ReadsPiece mid new between now ended second × (result ≡ by_both front second))
+    ⊎ ((is_version2 front ≡ true) × ReadsSecond header2_of mid new between now ended front result)
 ReadsOn mid new between now soon ended (Err fault) result = Rests mid new between now soon ended × (result ≡ Err fault)
 
--- the header is read by one piece or two
+-- the header of a capture is read by one piece or two
 abbrev pub FrontReads : ReaderState BeatParserState → ReaderState BeatParserState → Option (List ℕ) → Option (List ℕ) → Bool → Result Header CapFault → Type 0
 FrontReads old new before now ended result =
     (mid : ReaderState BeatParserState) × (between : Option (List ℕ)) × (soon : Bool) × (first : Result (List ℕ) CapFault)
     × ReadsPiece old mid before between soon first × ReadsOn mid new between now soon ended first result
+
+-- that of a file of levels by two
+abbrev pub ReadsOnLevels : ReaderState BeatParserState → ReaderState BeatParserState → Option (List ℕ) → Option (List ℕ) → Bool → Bool → Result (List ℕ) CapFault → Result LevelsHeader CapFault
+    → Type 0
+ReadsOnLevels mid new between now soon ended (Ok front) result = ReadsSecond levels_header_of mid new between now ended front result
+ReadsOnLevels mid new between now soon ended (Err fault) result = Rests mid new between now soon ended × (result ≡ Err fault)
+
+abbrev pub LevelsFrontReads : ReaderState BeatParserState → ReaderState BeatParserState → Option (List ℕ) → Option (List ℕ) → Bool → Result LevelsHeader CapFault → Type 0
+LevelsFrontReads old new before now ended result =
+    (mid : ReaderState BeatParserState) × (between : Option (List ℕ)) × (soon : Bool) × (first : Result (List ℕ) CapFault)
+    × ReadsPiece old mid before between soon first × ReadsOnLevels mid new between now soon ended first result
 
 -- a beat was read, or the end or a fault came
 abbrev pub ReadsBeat : ReaderState BeatParserState → ReaderState BeatParserState → Option (List ℕ) → Option (List ℕ) → Bool → Result BeatIn CapFault → Type 0

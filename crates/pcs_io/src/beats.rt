@@ -2,11 +2,14 @@
 ghost use Rattle.std.specs.Prelude.{◌≡◌, ◌≤◌, ◌+◌, ◌⊎◌, ◌%◌, true, ◌++◌, ◌↔◌, ℕ, List, Option, Result, length, IfOk, IsErrOf, IsTrue, IsSome};
 ghost use Rattle.pcs_io.specs.Faults.{Rose};
 ghost use Rattle.pcs_io.specs.Headers.{IsInRange};
-ghost use Rattle.pcs_io.specs.Captures.{refusal_of, is_version2, ReadsPiece, ReadsBeat, FrontReads};
+ghost use Rattle.pcs_io.specs.LevelsHeaders.{IsLevelsHeader};
+ghost use Rattle.pcs_io.specs.Captures.{refusal_of, is_version2, ReadsPiece, ReadsBeat, FrontReads, LevelsFrontReads};
 
 use crate::beat_parser::BeatParser;
 use crate::reader::{Reader, Standing};
-use crate::{BadHeader, Header, InFault, Source, read_header, read_header2};
+use crate::{
+    BadHeader, Header, InFault, LevelsHeader, Source, read_header, read_header2, read_levels_header,
+};
 use std::alloc::{AllocError, Global};
 use std::marker::Model;
 use thiserror::Error;
@@ -39,10 +42,11 @@ pub enum Front {
     Unread,
     Refused,
     Read(Header),
+    ReadLevels(LevelsHeader),
 }
 
-/// A reader of captures: a header, and beats of sixteen octets. It owns all the memory that it
-/// needs.
+/// A reader of captures and of files of levels: a header, and beats of sixteen octets. It owns all
+/// the memory that it needs.
 #[derive(Drop)]
 pub struct Beats {
     reader: Reader<BeatParser>,
@@ -63,9 +67,11 @@ impl Model for Beats {
 }
 
 impl Beats {
-    ghost use Rattle.pcs_io.specs.Captures.{History, Stands, Tells, HeaderAnswers, IsNearerEnd, Going, Passes, opened, header_told, header_read, whole_front};
+    ghost use Rattle.pcs_io.specs.Captures.{History, Stands, Tells, TellsBy, HeaderAnswers, HeaderAnswersBy, IsNearerEnd, Going, Passes, PassesBy};
+    ghost use Rattle.pcs_io.specs.Captures.{opened, header_told, header_read, whole_front, levels_header_at};
     ghost use Rattle.pcs_io.specs.Histories.{octets_ahead};
     ghost use Rattle.pcs_io.specs.declared.header.Header.{Header};
+    ghost use Rattle.pcs_io.specs.declared.levels_header.LevelsHeader.{LevelsHeader};
 
     /// A reader that takes at most `limit` octets.
     pub fn open(alloc: Global, limit: u64) -> Result<Self, AllocError>
@@ -99,12 +105,35 @@ impl Beats {
         Ok(header)
     }
 
+    /// Reads the header of a file of levels: thirty-two octets. It is the first call, in place of
+    /// `header`.
+    pub fn levels_header<S: Source>(&mut self, source: &mut S) -> Result<LevelsHeader, CapFault>
+        requires { self.old.front ≡ Front.Unread }
+        ensures answers { (h : History) → Stands self.old h → (got : List ℕ)
+            × HeaderAnswersBy levels_header_at h.limit got (S.left source.old) (S.left source.new) (S.ended source.new) result
+            × Stands self.new (header_told h got result) }
+        ensures front { IfOk result (λ header. self.new.front ≡ Front.ReadLevels header) }
+        ensures range { IfOk result IsLevelsHeader }
+        ensures ahead { IfOk result (λ _. octets_ahead self.new.reader ≤ self.new.reader.buffer.limit) }
+        ensures waits { IfOk result (λ _. length self.new.reader.buffer.unused ≤ 65536) }
+        ensures later { S.faults source.old ≤ S.faults source.new }
+        ensures read { IsErrOf result CapFault.Read → Rose (S.faults source.old) (S.faults source.new) }
+    {
+        self.front = Front::Refused;
+        let header = read_levels_front(&mut self.reader, source)?;
+        self.reader.stays_within();
+        self.front = Front::ReadLevels(header);
+        Ok(header)
+    }
+
     /// The next beat, or the end of the input. After the end or a fault every further call answers
     /// the same and reads nothing. The header was read.
     pub fn next<S: Source>(&mut self, source: &mut S) -> Result<BeatIn, CapFault>
         requires { IsSome (header_read self.old.front) }
         ensures answers { (h : History) (header : Header) → Stands self.old h → self.old.front ≡ Front.Read header
             → Tells h.course h header self.old self.new (S.left source.old) (S.left source.new) (S.ended source.new) result }
+        ensures levels { (h : History) (header : LevelsHeader) → Stands self.old h → self.old.front ≡ Front.ReadLevels header
+            → TellsBy levels_header_at h.course h header self.old self.new (S.left source.old) (S.left source.new) (S.ended source.new) result }
         ensures front { self.new.front ≡ self.old.front }
         ensures nearer { IsNearerEnd self.old self.new result }
         ensures later { S.faults source.old ≤ S.faults source.new }
@@ -127,6 +156,8 @@ impl Beats {
     pub fn pass(&mut self)
         ensures passes { (h : History) (header : Header) → Stands self.old h → self.old.front ≡ Front.Read header → h.course ≡ Going
             → Passes self.old.reader.buffer.unused h header self.new }
+        ensures levels { (h : History) (header : LevelsHeader) → Stands self.old h → self.old.front ≡ Front.ReadLevels header → h.course ≡ Going
+            → PassesBy levels_header_at self.old.reader.buffer.unused h header self.new }
         ensures front { self.new.front ≡ self.old.front }
         ensures nearer { octets_ahead self.new.reader + length (whole_front self.old.reader.buffer.unused) ≡ octets_ahead self.old.reader }
     {
@@ -160,6 +191,25 @@ fn read_front<S: Source>(
     }
     let behind = read_piece(reader, source)?;
     settle(read_header2(&joined(&front, &behind)))
+}
+
+// Reads the header of a file of levels: two pieces.
+fn read_levels_front<S: Source>(
+    reader: &mut Reader<BeatParser>,
+    source: &mut S,
+) -> Result<LevelsHeader, CapFault>
+    requires { reader.old.standing ≡ Standing.Going }
+    ensures range { IfOk result IsLevelsHeader }
+    ensures answers { LevelsFrontReads reader.old reader.new (S.left source.old) (S.left source.new) (S.ended source.new) result }
+    ensures later { S.faults source.old ≤ S.faults source.new }
+    ensures read { IsErrOf result CapFault.Read → Rose (S.faults source.old) (S.faults source.new) }
+{
+    let front = read_piece(reader, source)?;
+    let behind = read_piece(reader, source)?;
+    match read_levels_header(&joined(&front, &behind)) {
+        Ok(header) => Ok(header),
+        Err(bad) => Err(CapFault::BadHeader(bad)),
+    }
 }
 
 // Whether the octets begin with the magic and the version 2.

@@ -33,3 +33,4 @@ pub mod Giving
 pub mod Given
 pub mod Opening
 pub mod Untouched
+pub mod ColumnCounts

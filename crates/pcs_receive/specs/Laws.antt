@@ -3,7 +3,8 @@
 --     EventsGoByHunts        the events of a hunt, by what it comes to
 --     BadBitsDoNotCount      no unmarked column depends on the bits of a bad pair
 --     BadPairsCloseFrames    no frame is open behind a bad pair
-use Rattle.std.specs.Prelude.{◌≡◌, ℕ, ◌+◌, ◌*◌, ◌<◌, true, false, if◌then◌else◌, List, [], ◌∷◌, ◌++◌, length, take, reverse, slice_range, Some, None}
+--     PairsHaveAllColumns    how many columns a pair has
+use Rattle.std.specs.Prelude.{◌≡◌, ℕ, ◌+◌, ◌*◌, ◌%◌, ◌==◌, ◌<◌, true, false, if◌then◌else◌, List, [], ◌∷◌, ◌++◌, length, take, reverse, slice_range, Some, None}
 use Rattle.bit_lists.specs.Places.{joined}
 use Rattle.pcs_bits.specs.Captures.{Capture, longer}
 use Rattle.mac_columns.specs.declared.column.Column.{Column}
@@ -58,3 +59,7 @@ BadBitsDoNotCount =
 abbrev pub BadPairsCloseFrames : Type 0
 BadPairsCloseFrames =
     (p : ℕ) (pairs : List Rows) (i : ℕ) → i < length pairs → is_bad pairs i ≡ true → open_frame (reverse (received p (take (i + 1) pairs))) ≡ None
+
+-- a pair that begins with a group has 128 columns, and each other pair 160
+abbrev pub PairsHaveAllColumns : Type 0
+PairsHaveAllColumns = (p : ℕ) (pairs : List Rows) (i : ℕ) → length (columns_of_pair p pairs i) ≡ (if i % p == 0 then 128 else 160)

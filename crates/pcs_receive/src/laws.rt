@@ -1,5 +1,5 @@
 //! Laws of the events. A function that does nothing states its law in its contract.
-ghost use Rattle.pcs_receive.specs.Laws.{EventsGrow, EventsGoByHunts, BadBitsDoNotCount, BadPairsCloseFrames};
+ghost use Rattle.pcs_receive.specs.Laws.{EventsGrow, EventsGoByHunts, BadBitsDoNotCount, BadPairsCloseFrames, PairsHaveAllColumns};
 ghost use Rattle.pcs_receive.specs.Headline.{TrueLockAligns, AlignmentIsTold};
 ghost use Rattle.pcs_receive.specs.Headline.{WordsTellWrongSymbols, ReportsTellWrongSymbols};
 ghost use Rattle.pcs_receive.specs.Headline.{Headline, HeadlineOfItems};
@@ -24,6 +24,11 @@ pub fn bad_bits_do_not_count()
 /// No frame is open behind a bad pair.
 pub fn bad_pairs_close_frames()
     ensures { BadPairsCloseFrames }
+{}
+
+/// A pair has 128 columns where it begins with a group, and else 160.
+pub fn pairs_have_all_columns()
+    ensures { PairsHaveAllColumns }
 {}
 
 /// An image with true lock is aligned, its lanes stand at one group, and the alignment is told. Its

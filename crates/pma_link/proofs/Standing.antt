@@ -32,15 +32,15 @@ take-for_each m n f h =
     by_places m f (take m (for_each n f)) 0 (length-take m (for_each n f) ∙ omega (arith, length-for_each n f))
     (λ k low. get_or-take m (for_each n f) k 0 low ∙ at-for_each n f k 0 (omega arith))
 
-join-for_each : (n m : ℕ) (f g h : ℕ → ℕ) → ((k : ℕ) → k < n → f k ≡ h k) → ((k : ℕ) → k < m → g k ≡ h (n + k))
+pub join-for_each : {X : Type 0} (d : X) (n m : ℕ) (f g h : ℕ → X) → ((k : ℕ) → k < n → f k ≡ h k) → ((k : ℕ) → k < m → g k ≡ h (n + k))
     → for_each (n + m) h ≡ for_each n f ++ for_each m g
-join-for_each n m f g h low high =
+join-for_each d n m f g h low high =
     let size : length (for_each n f) ≡ n = length-for_each n f in
-    sym (by_places (n + m) h (for_each n f ++ for_each m g) 0
+    sym (by_places (n + m) h (for_each n f ++ for_each m g) d
     (length-append (for_each n f) (for_each m g) ∙ ap₂ (λ a b. a + b) size (length-for_each m g))
     (λ k small. elim (cases_lt k n) [
-      | inl here ↦ get_or_append_left (for_each n f) (for_each m g) 0 k (omega (arith, size)) ∙ at-for_each n f k 0 here ∙ low k here
-      | inr past ↦ get_or-append_right (for_each n f) (for_each m g) n k 0 size past ∙ at-for_each m g (k - n) 0 (omega arith)
+      | inl here ↦ get_or_append_left (for_each n f) (for_each m g) d k (omega (arith, size)) ∙ at-for_each n f k d here ∙ low k here
+      | inr past ↦ get_or-append_right (for_each n f) (for_each m g) n k d size past ∙ at-for_each m g (k - n) d (omega arith)
           ∙ high (k - n) (omega arith) ∙ ap h (omega arith)
     ]))
 
@@ -197,7 +197,7 @@ one_more_given mask before beat next l =
     let more : 8 * length beats ≡ 8 * length before + 8 = omega (arith, size) in
     but_last-read mask beats next l
     ∙ ap (λ n. for_each n (read (beats ++ next ∷ []) l r)) more
-    ∙ join-for_each (8 * length before) 8 (read beats l r) (read (beat ∷ next ∷ []) l r) (read (beats ++ next ∷ []) l r)
+    ∙ join-for_each 0 (8 * length before) 8 (read beats l r) (read (beat ∷ next ∷ []) l r) (read (beats ++ next ∷ []) l r)
     (λ k low. sym (read-before beats (next ∷ []) l r k (omega (arith, size))))
     (λ k low. sym (ap (λ bs. read bs l r (8 * length before + k)) (append_assoc before (beat ∷ []) (next ∷ [])) ∙ read-behind before (beat ∷ next ∷ []) l r k))
     ∙ sym (ap₂ (λ x y. x ++ y) (but_last-read mask before beat l) (two-read mask beat next l))
@@ -212,7 +212,7 @@ last_given mask before beat l =
     let more : 8 * length beats ≡ 8 * length before + 8 = omega (arith, size) in
     phased-read mask beats l
     ∙ ap (λ n. for_each n (read beats l r)) more
-    ∙ join-for_each (8 * length before) 8 (read beats l r) (read (beat ∷ replicate 16 0 ∷ []) l r) (read beats l r)
+    ∙ join-for_each 0 (8 * length before) 8 (read beats l r) (read (beat ∷ replicate 16 0 ∷ []) l r) (read beats l r)
     (λ k low. refl)
     (λ k low. read-zeros beat l r k ∙ sym (read-behind before (beat ∷ []) l r k))
     ∙ sym (ap₂ (λ x y. x ++ y) (but_last-read mask before beat l) (two-read mask beat (replicate 16 0) l))

@@ -127,7 +127,7 @@ at-decoded b [] n low = absurd (omega arith)
 at-decoded b (p ∷ ps) zero low = refl
 at-decoded b (p ∷ ps) (suc n) low = at-decoded p ps n (omega arith)
 
-small_precoded : (b : ℕ) (gs : List ℕ) (n : ℕ) → get_or (precoded b gs) n 0 < 4
+pub small_precoded : (b : ℕ) (gs : List ℕ) (n : ℕ) → get_or (precoded b gs) n 0 < 4
 unfolding precoded
 small_precoded b [] n = omega arith
 small_precoded b (g ∷ gs) zero = omega arith

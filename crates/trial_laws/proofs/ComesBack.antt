@@ -35,7 +35,8 @@ use Rattle.pcs_receive.proofs.PairsOf.{length-pairs_of}
 use Rattle.mac_columns.specs.RunPlaces.{frames_between}
 use Rattle.trial_laws.specs.TrialFrames.{behind_frame, trial_frames}
 use Rattle.trial_laws.specs.Trial.{limit_of, trial_columns, trial_pairs, trial_lanes, trial_capture, corrected_of, corrected, are_same, made_columns}
-use Rattle.trial_laws.specs.Trial.{made_frames, Summary, trial_summary}
+use Rattle.trial_laws.specs.declared.summary.Summary.{Summary}
+use Rattle.trial_laws.specs.Trial.{made_frames, trial_summary}
 use Rattle.trial_laws.specs.Laws.{trial_image, TrialComesBack, TrialTells, SameFrames}
 use Rattle.trial_laws.proofs.MadeFrames.{are-frames}
 use Rattle.trial_laws.proofs.TrialImage.{trial_is_an_image}

@@ -12,6 +12,7 @@ use Rattle.pcs_send.specs.Transmission.{whole_pairs, carried}
 use Rattle.pcs_send.specs.SentFrames.{columns_of_items, transmitted}
 use Rattle.lane_impair.specs.Impairments.{impaired}
 use Rattle.pcs_receive.specs.Events.{Event, report, events, good}
+use Rattle.trial_laws.specs.declared.summary.Summary.{Summary}
 use Rattle.trial_laws.specs.TrialFrames.{trial_frames}
 use Rattle.trial_laws.specs.Damage.{trial_items, damaged}
 
@@ -62,17 +63,7 @@ are_same back frames = false
 abbrev pub line_of : List ℕ → ℕ → List ℕ
 line_of name n = name ++ decimal n ++ codes "\n"
 
--- the numbers of a summary, and whether all frames came back
-pub record Summary : Type 0 where
-  pub frames : ℕ
-  pub octets : ℕ
-  pub columns : ℕ
-  pub pairs : ℕ
-  pub corrected : ℕ
-  pub back : ℕ
-  pub equal : Bool
-
--- its seven lines
+-- the seven lines of a summary
 abbrev pub summary_text : Summary → List ℕ
 summary_text s =
     line_of (codes "frames ") s.frames ++ line_of (codes "octets ") s.octets ++ line_of (codes "columns ") s.columns

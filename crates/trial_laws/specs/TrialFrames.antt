@@ -30,3 +30,8 @@ behind_frame state = state_after (1 + words_of state) state
 unfoldable pub trial_frames : ℕ → ℕ → List Item
 trial_frames state zero = []
 trial_frames state (suc count) = frame_item (frame_of state) (gap_of state) ∷ trial_frames (behind_frame state) count
+
+-- the state of a generator, and the frame that was made last
+pub record Made : Type 0 where
+  pub state : ℕ
+  pub frame : List ℕ

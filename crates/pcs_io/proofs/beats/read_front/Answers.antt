@@ -1,4 +1,4 @@
-use Rattle.std.proofs.Common.{◌≡◌, ◌∙◌, ap, sym, refl, inl, inr, true, Ok, Err}
+use Rattle.std.proofs.Common.{◌≡◌, ◌∙◌, ap, sym, refl, inr, true, Ok}
 use Rattle.std.proofs.lemmas.Result.{err_from_is_err_and}
 use Rattle.pcs_io.specs.Headers.{header2_of}
 use Rattle.pcs_io.specs.Captures.{is_version2, refusal_of}
@@ -14,7 +14,7 @@ returns-in_err-behind-clause-answers g c =
       g.S.Source.ended c.read_piece.new.source,
       Ok c.in_ok-front.front,
       c.in_ok-front.ensures.answers,
-      inr (version, _, c.in_err-behind.ensures.answers, refl),
+      inr (version, (_, c.in_err-behind.ensures.answers, refl)),
     )
 
 pub returns-clause-answers : goal.returns-clause-answers
@@ -27,8 +27,10 @@ returns-clause-answers g c =
       c.in_ok-front.ensures.answers,
       inr (
         version,
-        Ok c.in_ok-behind.behind,
-        c.in_ok-behind.ensures.answers,
-        c.settle-2.ensures.refusal ∙ ap refusal_of (c.read_header2.ensures.header ∙ ap header2_of c.joined.ensures),
+        (
+          Ok c.in_ok-behind.behind,
+          c.in_ok-behind.ensures.answers,
+          c.settle-2.ensures.refusal ∙ ap refusal_of (c.read_header2.ensures.header ∙ ap header2_of c.joined.ensures),
+        ),
       ),
     )
