@@ -4,8 +4,7 @@ use Rattle.std.specs.List.{flat_map, AllByRecursion}
 use Rattle.std.proofs.lemmas.List.{take_all, drop-drop, take-append-drop}
 use Rattle.std.proofs.Math.Seq.{take-append_seam, drop-append_seam}
 use Rattle.pcs_io.specs.Octets.{AppendsFront}
-use Rattle.pcs_io.specs.declared.header.Header.{Header}
-use Rattle.pcs_drive.specs.CaptureCommand.{CaptureText}
+use Rattle.pcs_drive.specs.CaptureCommand.{BeatsText}
 use Rattle.pcs_drive.specs.Tasks.{AreBeats, Grows}
 use Rattle.pcs_drive.proofs.WritingLemmas.{front-more}
 
@@ -44,10 +43,10 @@ pub all-beats : (beats others : List (List ℕ)) (octets : List ℕ) (n : ℕ) �
 all-beats beats others octets n are is = ap (λ bs. others ++ bs) (take_all n beats (omega (arith, is, beats-count beats octets are)))
 
 -- a front of the text of fewer beats is one of the text of all
-pub fewer-beats : (text : CaptureText) (header : Header) (start now : Option (List ℕ)) (beats more : List (List ℕ)) (n : ℕ) → Grows text header
-    → AppendsFront start now (text.so_far header (beats ++ take n more)) → AppendsFront start now (text.so_far header (beats ++ more))
-fewer-beats text header start now beats more n grows front =
+pub fewer-beats : (text : BeatsText) (start now : Option (List ℕ)) (beats more : List (List ℕ)) (n : ℕ) → Grows text
+    → AppendsFront start now (text.so_far (beats ++ take n more)) → AppendsFront start now (text.so_far (beats ++ more))
+fewer-beats text start now beats more n grows front =
     let few = beats ++ take n more in
     let (rest, longer) = grows few (drop n more) in
     let all : few ++ drop n more ≡ beats ++ more = append_assoc beats (take n more) (drop n more) ∙ ap (λ bs. beats ++ bs) (take-append-drop n more) in
-    subst (AppendsFront start now) (sym longer ∙ ap (text.so_far header) all) (front-more start now (text.so_far header few) rest front)
+    subst (AppendsFront start now) (sym longer ∙ ap (text.so_far) all) (front-more start now (text.so_far few) rest front)

@@ -1,4 +1,4 @@
--- An input in the grammar is turned into its text, by a command on lines or on captures.
+-- An input in the grammar is turned into its text, by a command on lines or on beats behind a header.
 use Rattle.std.proofs.Common.{◌≡◌, ℕ, ◌^◌, ◌<◌, ◌≤◌, ◌⊎◌, inl, inr, Bool, true, false, cond, List, [], ◌∷◌, ◌++◌, length, take, drop, Option, Some, IfSome, Result, Ok, Err, sym, ◌∙◌, ap, subst, refl, append-nil, length-append, arith}
 use Rattle.std.specs.Prelude.{nat_le}
 use Rattle.std.proofs.lemmas.Bool.{cases_lt, le-leb, lt-leb, leb-true}
@@ -6,7 +6,7 @@ use Rattle.std.proofs.lemmas.List.{take-append-le}
 use Rattle.pcs_io.specs.Octets.{TakesWhereTold}
 use Rattle.pcs_io.specs.Beats.{beat_at}
 use Rattle.pcs_io.specs.Headers.{header_of, header2_of}
-use Rattle.pcs_io.specs.Captures.{Whole, Wrong, Short, settled, is_version2, header_at, OpensWhole}
+use Rattle.pcs_io.specs.Captures.{FrontAt, Whole, Wrong, Short, settled, is_version2, header_at, OpensWholeBy}
 use Rattle.pcs_io.specs.Grammars.{LineAt, Line, IsGrammar, Begins, AreLines, AreRefused, AreCut}
 use Rattle.pcs_io.specs.declared.header.Header.{Header}
 use Rattle.pcs_io.specs.declared.header.BadHeader.{BadHeader as Refusal}
@@ -15,7 +15,7 @@ use Rattle.pcs_io.proofs.BeatPieces.{is-piece}
 use Rattle.pcs_io.proofs.LineLaws.{begins-more, lines-behind, refused-more, refused-lines, open-lines}
 use Rattle.pcs_drive.specs.Seen.{Seen, TookAll, ReadFailed, WriteFailed}
 use Rattle.pcs_drive.specs.LineCommand.{Converted, IsRefused}
-use Rattle.pcs_drive.specs.CaptureCommand.{CaptureText, FromCapture, IsNoHeader}
+use Rattle.pcs_drive.specs.CaptureCommand.{TextBehind, FromFileBy, IsNoHeaderBy}
 use Rattle.pcs_drive.specs.declared.outcome.Outcome.{Outcome}
 use Rattle.pcs_drive.specs.declared.outcome.Outcome.TheVariants.{Done, ReadFault, WriteFault, NoMemory, BadLine, BadHeader, TooTight, Cut, NotAligned, TooLong}
 
@@ -88,9 +88,9 @@ begins-alone octets (beat ∷ beats) (other ∷ others) rest left b o short low 
     let later = begins-alone o.0 beats others rest left (subst (λ os. Begins beat_at os beats rest) behind b.2) o.2 short low in
     (subst (λ f. beat ∷ beats ≡ f ∷ others) first (ap (λ bs. beat ∷ bs) later.0), later.1)
 
-pub opens-alone : (octets : List ℕ) (header other : Header) (beats others : List (List ℕ)) (over left : ℕ) → OpensWhole octets header beats over
-    → OpensWhole octets other others left → (header ≡ other) × (beats ≡ others) × (over ≡ left)
-opens-alone octets header other beats others over left o p =
+pub opens-alone : {X : Type 0} (at : List ℕ → FrontAt X) (octets : List ℕ) (header other : X) (beats others : List (List ℕ)) (over left : ℕ)
+    → OpensWholeBy at octets header beats over → OpensWholeBy at octets other others left → (header ≡ other) × (beats ≡ others) × (over ≡ left)
+opens-alone at octets header other beats others over left o p =
     let same : Whole header o.1.0 ≡ Whole other p.1.0 = sym o.1.1 ∙ p.1.1 in
     let first : header ≡ other = cc in
     let behind : o.1.0 ≡ p.1.0 = cc in
@@ -99,7 +99,7 @@ opens-alone octets header other beats others over left o p =
     (first, later.0, sym o.2 ∙ ap length later.1 ∙ p.2)
 
 -- a header that is wrong stays so, whatever follows
-header-stays : (octets more : List ℕ) (bad : Refusal) → header_at octets ≡ Wrong bad → header_at (octets ++ more) ≡ Wrong bad
+pub header-stays : (octets more : List ℕ) (bad : Refusal) → header_at octets ≡ Wrong bad → header_at (octets ++ more) ≡ Wrong bad
 unfolding header_at
 header-stays octets more bad is = elim (cases_lt (length octets) 16) [
   | inl low ↦ absurd (let none : nat_le 16 (length octets) ≡ false = lt-leb 16 (length octets) low in let e : Short ≡ Wrong bad = rw none at is in cc)
@@ -129,22 +129,24 @@ header-stays octets more bad is = elim (cases_lt (length octets) 16) [
     by false short long second other (Ok header) a b c d e follows = absurd cc
     by false short long second other (Err wrong) a b c d e follows = e
 
-module _ (text : CaptureText) (seen : Seen) (octets rest : List ℕ) (header : Header) (beats : List (List ℕ))
-    (b : seen.left_before ≡ Some octets) (a : seen.left_after ≡ Some rest) (whole : OpensWhole octets header beats 0) (aligned : text.is_aligned header beats ≡ true) where
-  no-refusal : (bad : Refusal) → IsNoHeader seen bad → ⊥
+-- A command on a whole file of a kind, of which a header that is wrong stays so.
+module _ {X : Type 0} (at : List ℕ → FrontAt X) (stays : (octets more : List ℕ) (bad : Refusal) → at octets ≡ Wrong bad → at (octets ++ more) ≡ Wrong bad)
+    (text : TextBehind X) (seen : Seen) (octets rest : List ℕ) (header : X) (beats : List (List ℕ)) (b : seen.left_before ≡ Some octets)
+    (a : seen.left_after ≡ Some rest) (whole : OpensWholeBy at octets header beats 0) (aligned : (text header).is_aligned beats ≡ true) where
+  no-refusal : (bad : Refusal) → IsNoHeaderBy at seen bad → ⊥
   no-refusal bad (taken, inl (took, wrong)) =
       let same = front seen.left_before seen.left_after octets rest taken b a took in
-      let is : Whole header whole.1.0 ≡ Wrong bad = sym whole.1.1 ∙ ap header_at same ∙ header-stays taken rest bad wrong in cc
+      let is : Whole header whole.1.0 ≡ Wrong bad = sym whole.1.1 ∙ ap at same ∙ stays taken rest bad wrong in cc
   no-refusal bad (taken, inr (cut, took, low, short)) =
-      let is : Whole header whole.1.0 ≡ Short = sym whole.1.1 ∙ ap header_at (all seen octets rest taken b a took) ∙ short in cc
+      let is : Whole header whole.1.0 ≡ Short = sym whole.1.1 ∙ ap at (all seen octets rest taken b a took) ∙ short in cc
 
   -- what was taken to the end is this header and these beats
-  taken-alone : (got : List ℕ) (other : Header) (others : List (List ℕ)) (over : ℕ) → TookAll seen got → OpensWhole got other others over
+  taken-alone : (got : List ℕ) (other : X) (others : List (List ℕ)) (over : ℕ) → TookAll seen got → OpensWholeBy at got other others over
       → (header ≡ other) × (beats ≡ others) × (0 ≡ over)
   taken-alone got other others over took opens =
-      opens-alone got header other beats others 0 over (subst (λ os. OpensWhole os header beats 0) (all seen octets rest got b a took) whole) opens
+      opens-alone at got header other beats others 0 over (subst (λ os. OpensWholeBy at os header beats 0) (all seen octets rest got b a took) whole) opens
 
-  pub captured : (outcome : Outcome) → length octets < 2 ^ 40 → ¬ ReadFailed seen → ¬ WriteFailed seen → FromCapture text seen outcome
+  pub captured : (outcome : Outcome) → length octets < 2 ^ 40 → ¬ ReadFailed seen → ¬ WriteFailed seen → FromFileBy at text seen outcome
       → (outcome ≡ Done) ⊎ (outcome ≡ NoMemory)
   captured Done short reads writes c = inl refl
   captured ReadFault short reads writes (inl c) = absurd (reads c.1)
@@ -158,6 +160,6 @@ module _ (text : CaptureText) (seen : Seen) (octets rest : List ℕ) (header : H
       let same = taken-alone c.1.2.got c.0 c.1.0 over c.1.2.took c.1.2.whole in absurd (omega (arith, c.1.1, same.2))
   captured NotAligned short reads writes c =
       let same = taken-alone c.1.1.got c.0 c.1.0 0 c.1.1.took c.1.1.whole in
-      absurd (let is : true ≡ false = sym aligned ∙ ap (λ h. text.is_aligned h beats) same.0 ∙ ap (text.is_aligned c.0) same.1 ∙ c.1.2 in cc)
+      absurd (let is : true ≡ false = sym aligned ∙ ap (λ h. (text h).is_aligned beats) same.0 ∙ ap (text c.0).is_aligned same.1 ∙ c.1.2 in cc)
   captured TooLong short reads writes c =
       absurd (omega (arith, short, ap length (front seen.left_before seen.left_after octets rest c.1.2.got b a c.1.2.took), length-append c.1.2.got rest, c.1.3))

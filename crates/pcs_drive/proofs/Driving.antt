@@ -1,6 +1,6 @@
--- Beats of a capture that are read, and what is answered.
-use Rattle.std.proofs.Common.{◌≡◌, ℕ, ◌/◌, ◌<◌, ◌≤◌, Bool, true, false, List, [], ◌∷◌, ◌++◌, length, Option, Result, Ok, Err, refl, sym, ◌∙◌, ap, subst, arith, append_assoc, append-nil, inl, inr}
-use Rattle.std.specs.Prelude.{◌⊎◌}
+-- Beats that are read behind a header of either kind, and what is answered.
+use Rattle.std.proofs.Common.{◌≡◌, ℕ, ◌<◌, ◌≤◌, Bool, true, false, List, [], ◌∷◌, ◌++◌, length, Option, Result, Ok, Err, refl, sym, ◌∙◌, ap, subst, arith, append_assoc, append-nil, inl, inr}
+use Rattle.std.specs.Prelude.{◌⊎◌, IsSome}
 use Rattle.std.specs.List.{AllByRecursion}
 use Rattle.std.proofs.lemmas.Bool.{cases_lt, lt-ltb}
 use Rattle.std.specs.Io.KnownBytes.{Consumes}
@@ -8,22 +8,23 @@ use Rattle.pcs_io.specs.Faults.{Rose}
 use Rattle.pcs_io.specs.Grammars.{Begins}
 use Rattle.pcs_io.specs.Beats.{beat_at}
 use Rattle.pcs_io.specs.Octets.{TakesWhereTold, AppendsFront}
-use Rattle.pcs_io.specs.Captures.{History, BeatsState, Stands, StandsAt, course_of, Going, Failed, Opens, OpensWhole, Tells, Passes, BeatAnswers, beat_told, whole_front}
-use Rattle.pcs_io.specs.declared.header.Header.{Header}
+use Rattle.pcs_io.specs.Captures.{FrontAt, History, BeatsState, Stands, StandsAt, course_of, Going, Failed, OpensBy, OpensWholeBy, TellsBy, PassesBy, BeatAnswersBy}
+use Rattle.pcs_io.specs.Captures.{header_read, beat_told, whole_front}
+use Rattle.pcs_io.specs.declared.beats.Front.{Front}
 use Rattle.pcs_io.specs.declared.beats.Front.TheVariants as front
 use Rattle.pcs_io.specs.declared.beats.BeatIn.{BeatIn}
 use Rattle.pcs_io.specs.declared.beats.BeatIn.TheVariants.{Beat, End}
 use Rattle.pcs_io.specs.declared.beats.CapFault.{CapFault}
 use Rattle.pcs_io.specs.declared.beats.CapFault.TheVariants as fault
+use Rattle.pcs_io.specs.declared.reader.Standing.{Standing}
 use Rattle.pcs_io.specs.declared.reader.Standing.TheVariants as standing
 use Rattle.pcs_io.specs.declared.fault.InFault.TheVariants as in_fault
 use Rattle.pcs_io.proofs.Told.{consumes-append, consumes-none, takes-after, takes-consumed}
 use Rattle.pcs_io.proofs.BeatPieces.{is-piece, pieces-split}
-use Rattle.pcs_io.proofs.CaptureCalls.{beats-passed}
 use Rattle.pcs_drive.specs.Seen.{Seen, Took, Written, ReadFailed, WriteFailed}
 use Rattle.pcs_drive.specs.Outcomes.{outcome_of_capture}
 use Rattle.pcs_drive.specs.Writing.{Stays, BreaksOffBefore}
-use Rattle.pcs_drive.specs.CaptureCommand.{CaptureText, HasHeader, TookAllBeats, outcome_at_end, FromBeats}
+use Rattle.pcs_drive.specs.CaptureCommand.{BeatsText, HasHeaderBy, TookAllBeatsBy, outcome_at_end, FromBeatsBy}
 use Rattle.pcs_drive.specs.Tasks.{Meaning, HasPut, TakesBeat, BreaksAtBeat, TakesBeats, BreaksAtBeats, Finishes, BreaksAtEnd}
 use Rattle.pcs_drive.specs.declared.outcome.Outcome.TheVariants.{WriteFault}
 use Rattle.pcs_drive.proofs.Copying.{all-written, rose-after}
@@ -36,12 +37,12 @@ sixteens octets [] rest b = tt
 sixteens octets (beat ∷ beats) rest b = ((is-piece octets beat b.0 b.1).sixteen, sixteens b.0 beats rest b.2)
 
 -- beats behind others are such beats
-later-sixteens : (octets : List ℕ) (header : Header) (beats more : List (List ℕ)) (rest : List ℕ) → Opens octets header (beats ++ more) rest
+later-sixteens : {X : Type 0} (at : List ℕ → FrontAt X) (octets : List ℕ) (header : X) (beats more : List (List ℕ)) (rest : List ℕ) → OpensBy at octets header (beats ++ more) rest
     → AllByRecursion (λ beat. length beat ≡ 16) more
-later-sixteens octets header beats more rest o =
+later-sixteens at octets header beats more rest o =
     let parts = pieces-split o.0 beats more rest o.2 in sixteens parts.0 more rest parts.2
 
-module _ {T : Type 0} (Keeps : Meaning T) (h : History) (header : Header) (text : CaptureText) where
+module _ {T X : Type 0} (Keeps : Meaning T) (at : List ℕ → FrontAt X) (h : History) (header : X) (text : BeatsText) where
   -- the octets and the beats read so far
   abbrev reading : List ℕ → List (List ℕ) → History
   reading got beats = record h { octets = h.octets ++ got; beats = beats }
@@ -53,12 +54,12 @@ module _ {T : Type 0} (Keeps : Meaning T) (h : History) (header : Header) (text 
     pub rest : List ℕ
     pub stands : Stands b (reading got beats)
     pub took : Consumes before now got
-    pub opens : Opens (h.octets ++ got) header beats rest
-    pub put : HasPut Keeps task text header beats start held pending
+    pub opens : OpensBy at (h.octets ++ got) header beats rest
+    pub put : HasPut Keeps task text beats start held pending
 
-  pub reading-start : (b : BeatsState) (task : T) (before start held : Option (List ℕ)) (pending : List ℕ) → HasHeader b h header
-      → HasPut Keeps task text header [] start held pending → Reading b task before before start held pending
-  reading-start b task before start held pending has put =
+  pub reading-start : (read_as : X → Front) (b : BeatsState) (task : T) (before start held : Option (List ℕ)) (pending : List ℕ) → HasHeaderBy at read_as b h header
+      → HasPut Keeps task text [] start held pending → Reading b task before before start held pending
+  reading-start read_as b task before start held pending has put =
       let same : h.octets ≡ h.octets ++ [] = sym (append-nil h.octets) in
       record {
         got = [];
@@ -66,7 +67,7 @@ module _ {T : Type 0} (Keeps : Meaning T) (h : History) (header : Header) (text 
         rest = has.begins.0;
         stands = subst (λ o. Stands b (record h { octets = o; beats = [] })) same (subst (λ bs. Stands b (record h { beats = bs })) has.none has.stands);
         took = consumes-none before;
-        opens = subst (λ o. Opens o header [] has.begins.0) same has.begins.1;
+        opens = subst (λ o. OpensBy at o header [] has.begins.0) same has.begins.1;
         put = put;
       }
 
@@ -80,16 +81,16 @@ module _ {T : Type 0} (Keeps : Meaning T) (h : History) (header : Header) (text 
     stands = r.stands;
     took = r.took;
     opens = r.opens;
-    put = record { keeps = r.put.keeps; grows = r.put.grows; wrote = kept start (text.so_far header r.beats) r.put.wrote };
+    put = record { keeps = r.put.keeps; grows = r.put.grows; wrote = kept start (text.so_far r.beats) r.put.wrote };
   }
 
   -- All the beats among the octets that the reader held are taken at once.
   module _ (going : h.course ≡ Going) (old new : BeatsState) (task task_now : T) (before now start held held_now : Option (List ℕ)) (pending more octets : List ℕ)
-      (r : Reading old task before now start held pending) (read : old.front ≡ front.Read header) (is : octets ≡ whole_front old.reader.buffer.unused) where
-    pub reading-all : ((k : History) (k_header : Header) → Stands old k → old.front ≡ front.Read k_header → k.course ≡ Going → Passes old.reader.buffer.unused k k_header new)
+      (r : Reading old task before now start held pending) (is : octets ≡ whole_front old.reader.buffer.unused) where
+    pub reading-all : ((k : History) → Stands old k → k.course ≡ Going → PassesBy at old.reader.buffer.unused k header new)
         → TakesBeats Keeps task task_now octets held pending held_now more → Reading new task_now before now start held_now more
     reading-all passes takes =
-        let p = passes (reading r.got r.beats) header r.stands read going in
+        let p = passes (reading r.got r.beats) r.stands going in
         record {
           got = r.got;
           beats = r.beats ++ p.0;
@@ -97,43 +98,43 @@ module _ {T : Type 0} (Keeps : Meaning T) (h : History) (header : Header) (text 
           stands = p.3;
           took = r.took;
           opens = p.2.1;
-          put = takes text header r.beats p.0 start (record { joined = p.1 ∙ sym is; each = later-sixteens (h.octets ++ r.got) header r.beats p.0 p.2.0 p.2.1 }) r.put;
+          put = takes text r.beats p.0 start (record { joined = p.1 ∙ sym is; each = later-sixteens at (h.octets ++ r.got) header r.beats p.0 p.2.0 p.2.1 }) r.put;
         }
 
   -- A write failed behind beats.
-  failed : (seen : Seen) (beats : List (List ℕ)) (got rest : List ℕ) → WriteFailed seen → Took seen got → Opens (h.octets ++ got) header beats rest
-      → AppendsFront seen.held_before seen.held_after (text.so_far header beats) → FromBeats text h.octets h.limit header seen WriteFault
+  failed : (seen : Seen) (beats : List (List ℕ)) (got rest : List ℕ) → WriteFailed seen → Took seen got → OpensBy at (h.octets ++ got) header beats rest
+      → AppendsFront seen.held_before seen.held_after (text.so_far beats) → FromBeatsBy at text h.octets h.limit header seen WriteFault
   failed seen beats got rest rose took opens front = (beats, rose, inl (got, rest, took, opens, front))
 
-  pub all-failed : (going : h.course ≡ Going) (seen : Seen) (old : BeatsState) (task : T) (held : Option (List ℕ)) (pending octets : List ℕ)
-      (r : Reading old task seen.left_before seen.left_after seen.held_before held pending) (read : old.front ≡ front.Read header)
-      (is : octets ≡ whole_front old.reader.buffer.unused)
-      → WriteFailed seen → BreaksAtBeats Keeps task octets held pending seen.held_after → FromBeats text h.octets h.limit header seen WriteFault
-  all-failed going seen old task held pending octets r read is rose breaks =
-      let p = beats-passed old (length old.reader.buffer.unused / 16) refl (reading r.got r.beats) header r.stands read going in
+  pub all-failed : (going : h.course ≡ Going) (seen : Seen) (old new : BeatsState) (task : T) (held : Option (List ℕ)) (pending octets : List ℕ)
+      (r : Reading old task seen.left_before seen.left_after seen.held_before held pending) (is : octets ≡ whole_front old.reader.buffer.unused)
+      → ((k : History) → Stands old k → k.course ≡ Going → PassesBy at old.reader.buffer.unused k header new)
+      → WriteFailed seen → BreaksAtBeats Keeps task octets held pending seen.held_after → FromBeatsBy at text h.octets h.limit header seen WriteFault
+  all-failed going seen old new task held pending octets r is passes rose breaks =
+      let p = passes (reading r.got r.beats) r.stands going in
       failed seen (r.beats ++ p.0) r.got p.2.0 rose (takes-consumed seen.left_before seen.left_after r.got r.took) p.2.1
-      (breaks text header r.beats p.0 seen.held_before (record { joined = p.1 ∙ sym is; each = later-sixteens (h.octets ++ r.got) header r.beats p.0 p.2.0 p.2.1 }) r.put)
+      (breaks text r.beats p.0 seen.held_before (record { joined = p.1 ∙ sym is; each = later-sixteens at (h.octets ++ r.got) header r.beats p.0 p.2.0 p.2.1 }) r.put)
 
   pub kept-failed : (seen : Seen) (b : BeatsState) (task : T) (held : Option (List ℕ)) (pending : List ℕ)
       → Reading b task seen.left_before seen.left_after seen.held_before held pending → WriteFailed seen
-      → BreaksOffBefore held pending seen.held_after → FromBeats text h.octets h.limit header seen WriteFault
+      → BreaksOffBefore held pending seen.held_after → FromBeatsBy at text h.octets h.limit header seen WriteFault
   kept-failed seen b task held pending r rose breaks =
       failed seen r.beats r.got r.rest rose (takes-consumed seen.left_before seen.left_after r.got r.took) r.opens
-      (breaks seen.held_before (text.so_far header r.beats) r.put.wrote)
+      (breaks seen.held_before (text.so_far r.beats) r.put.wrote)
 
   -- A call of `next`.
   module _ (going : h.course ≡ Going) (seen : Seen) (old new : BeatsState) (task : T) (mid held : Option (List ℕ)) (pending : List ℕ)
       (r : Reading old task seen.left_before mid seen.held_before held pending) (answer : Result BeatIn CapFault)
-      (tells : (k : History) → Stands old k → Tells k.course k header old new mid seen.left_after seen.ended answer) where
+      (tells : (k : History) → Stands old k → TellsBy at k.course k header old new mid seen.left_after seen.ended answer) where
     abbrev Told : Result BeatIn CapFault → Type 0
     Told a =
-        (got : List ℕ) × BeatAnswers (reading r.got r.beats) header got mid seen.left_after seen.ended a
+        (got : List ℕ) × BeatAnswersBy at (reading r.got r.beats) header got mid seen.left_after seen.ended a
         × Stands new (beat_told (reading r.got r.beats) got a)
 
     told : (a : Result BeatIn CapFault) → answer ≡ a → Told a
     told a is =
         subst Told is
-        (subst (λ course. Tells course (reading r.got r.beats) header old new mid seen.left_after seen.ended answer) going (tells (reading r.got r.beats) r.stands))
+        (subst (λ course. TellsBy at course (reading r.got r.beats) header old new mid seen.left_after seen.ended answer) going (tells (reading r.got r.beats) r.stands))
 
     behind : (got : List ℕ) → (h.octets ++ r.got) ++ got ≡ h.octets ++ (r.got ++ got)
     behind got = append_assoc h.octets r.got got
@@ -150,20 +151,20 @@ module _ {T : Type 0} (Keeps : Meaning T) (h : History) (header : Header) (text 
           rest = t.1.1;
           stands = subst (λ o. Stands new (record h { octets = o; beats = r.beats ++ beat ∷ [] })) (behind t.0) t.2;
           took = consumes-append seen.left_before mid seen.left_after r.got t.0 r.took t.1.0;
-          opens = subst (λ o. Opens o header (r.beats ++ beat ∷ []) t.1.1) (behind t.0) t.1.2;
-          put = takes text header r.beats seen.held_before r.put;
+          opens = subst (λ o. OpensBy at o header (r.beats ++ beat ∷ []) t.1.1) (behind t.0) t.1.2;
+          put = takes text r.beats seen.held_before r.put;
         }
 
     pub beat-failed : (beat : List ℕ) → answer ≡ Ok (Beat beat) → WriteFailed seen → BreaksAtBeat Keeps task beat held pending seen.held_after
-        → FromBeats text h.octets h.limit header seen WriteFault
+        → FromBeatsBy at text h.octets h.limit header seen WriteFault
     beat-failed beat is rose breaks =
         let t = told (Ok (Beat beat)) is in
         failed seen (r.beats ++ beat ∷ []) (r.got ++ t.0) t.1.1 rose
         (takes-consumed seen.left_before seen.left_after (r.got ++ t.0) (consumes-append seen.left_before mid seen.left_after r.got t.0 r.took t.1.0))
-        (subst (λ o. Opens o header (r.beats ++ beat ∷ []) t.1.1) (behind t.0) t.1.2) (breaks text header r.beats seen.held_before r.put)
+        (subst (λ o. OpensBy at o header (r.beats ++ beat ∷ []) t.1.1) (behind t.0) t.1.2) (breaks text r.beats seen.held_before r.put)
 
     -- all of the input was taken
-    took-all : (rest : ℕ) → answer ≡ Ok (End rest) → TookAllBeats h.octets h.limit header seen r.beats rest
+    took-all : (rest : ℕ) → answer ≡ Ok (End rest) → TookAllBeatsBy at h.octets h.limit header seen r.beats rest
     took-all rest is =
         let t = told (Ok (End rest)) is in
         record {
@@ -174,65 +175,65 @@ module _ {T : Type 0} (Keeps : Meaning T) (h : History) (header : Header) (text 
             ended = t.1.0.over;
           };
           short = subst (λ o. length o < h.limit) (behind t.0) t.1.1;
-          whole = subst (λ o. OpensWhole o header r.beats rest) (behind t.0) t.1.2;
+          whole = subst (λ o. OpensWholeBy at o header r.beats rest) (behind t.0) t.1.2;
         }
 
-    ends : (rest : ℕ) (aligned : Bool) → aligned ≡ text.is_aligned header r.beats → TookAllBeats h.octets h.limit header seen r.beats rest
-        → Written seen (text.whole header r.beats) → FromBeats text h.octets h.limit header seen (outcome_at_end rest aligned)
+    ends : (rest : ℕ) (aligned : Bool) → aligned ≡ text.is_aligned r.beats → TookAllBeatsBy at h.octets h.limit header seen r.beats rest
+        → Written seen (text.whole r.beats) → FromBeatsBy at text h.octets h.limit header seen (outcome_at_end rest aligned)
     ends rest aligned is all wrote = elim (cases_lt 0 rest) [
       | inl some ↦ rw (lt-ltb 0 rest some) (r.beats, some, all, wrote)
       | inr none ↦
           let zero_rest : rest ≡ 0 = omega (arith, none) in
-          rw zero_rest (by aligned is (subst (TookAllBeats h.octets h.limit header seen r.beats) zero_rest all))
+          rw zero_rest (by aligned is (subst (TookAllBeatsBy at h.octets h.limit header seen r.beats) zero_rest all))
     ]
       where
-        by : (a : Bool) → a ≡ text.is_aligned header r.beats → TookAllBeats h.octets h.limit header seen r.beats 0
-            → FromBeats text h.octets h.limit header seen (outcome_at_end 0 a)
+        by : (a : Bool) → a ≡ text.is_aligned r.beats → TookAllBeatsBy at h.octets h.limit header seen r.beats 0
+            → FromBeatsBy at text h.octets h.limit header seen (outcome_at_end 0 a)
         by true is whole = (r.beats, whole, sym is, wrote)
         by false is whole = (r.beats, whole, sym is, wrote)
 
     -- the input ended, and the rest of the text was put and written
     pub reading-end : (rest : ℕ) (aligned : Bool) (held_mid : Option (List ℕ)) (more : List ℕ) → answer ≡ Ok (End rest)
         → Finishes Keeps task aligned held pending held_mid more → Stays held_mid more seen.held_after []
-        → FromBeats text h.octets h.limit header seen (outcome_at_end rest aligned)
+        → FromBeatsBy at text h.octets h.limit header seen (outcome_at_end rest aligned)
     reading-end rest aligned held_mid more is finishes flushed =
-        let f = finishes text header r.beats seen.held_before r.put in
+        let f = finishes text r.beats seen.held_before r.put in
         ends rest aligned f.0 (took-all rest is)
-        (all-written seen.held_before seen.held_after (text.whole header r.beats)
-        (wrote-all seen.held_before seen.held_after (text.whole header r.beats) (flushed seen.held_before (text.whole header r.beats) f.1)))
+        (all-written seen.held_before seen.held_after (text.whole r.beats)
+        (wrote-all seen.held_before seen.held_after (text.whole r.beats) (flushed seen.held_before (text.whole r.beats) f.1)))
 
     -- a write failed at the end
     pub finish-failed : (rest : ℕ) → answer ≡ Ok (End rest) → WriteFailed seen → BreaksAtEnd Keeps task held pending seen.held_after
-        → FromBeats text h.octets h.limit header seen WriteFault
-    finish-failed rest is rose breaks = (r.beats, rose, inr (rest, took-all rest is, breaks text header r.beats seen.held_before r.put))
+        → FromBeatsBy at text h.octets h.limit header seen WriteFault
+    finish-failed rest is rose breaks = (r.beats, rose, inr (rest, took-all rest is, breaks text r.beats seen.held_before r.put))
 
     pub end-failed : (rest : ℕ) (aligned : Bool) (held_mid : Option (List ℕ)) (more : List ℕ) → answer ≡ Ok (End rest) → WriteFailed seen
         → Finishes Keeps task aligned held pending held_mid more → BreaksOffBefore held_mid more seen.held_after
-        → FromBeats text h.octets h.limit header seen WriteFault
+        → FromBeatsBy at text h.octets h.limit header seen WriteFault
     end-failed rest aligned held_mid more is rose finishes breaks =
-        let f = finishes text header r.beats seen.held_before r.put in
-        (r.beats, rose, inr (rest, took-all rest is, breaks seen.held_before (text.whole header r.beats) f.1))
+        let f = finishes text r.beats seen.held_before r.put in
+        (r.beats, rose, inr (rest, took-all rest is, breaks seen.held_before (text.whole r.beats) f.1))
 
-    text-written : Stays held pending seen.held_after [] → Written seen (text.so_far header r.beats)
+    text-written : Stays held pending seen.held_after [] → Written seen (text.so_far r.beats)
     text-written flushed =
-        all-written seen.held_before seen.held_after (text.so_far header r.beats)
-        (wrote-all seen.held_before seen.held_after (text.so_far header r.beats) (flushed seen.held_before (text.so_far header r.beats) r.put.wrote))
+        all-written seen.held_before seen.held_after (text.so_far r.beats)
+        (wrote-all seen.held_before seen.held_after (text.so_far r.beats) (flushed seen.held_before (text.so_far r.beats) r.put.wrote))
 
     took-more : (got : List ℕ) → TakesWhereTold mid seen.left_after got → Took seen (r.got ++ got)
     took-more got takes = takes-after seen.left_before mid seen.left_after r.got got r.took takes
 
     -- a fault came
     pub reading-fault : (why : CapFault) → answer ≡ Err why → (why ≡ fault.Read → ReadFailed seen) → Stays held pending seen.held_after []
-        → FromBeats text h.octets h.limit header seen (outcome_of_capture why)
+        → FromBeatsBy at text h.octets h.limit header seen (outcome_of_capture why)
     reading-fault why is rose flushed = by why (told (Err why) is) rose
       where
         by : (why : CapFault) → Told (Err why) → (why ≡ fault.Read → ReadFailed seen)
-            → FromBeats text h.octets h.limit header seen (outcome_of_capture why)
+            → FromBeatsBy at text h.octets h.limit header seen (outcome_of_capture why)
         by fault.Read t rose = (
           r.beats,
           t.1.1,
           rose refl,
-          record { got = r.got ++ t.0; took = took-more t.0 t.1.0; whole = subst (λ o. OpensWhole o header r.beats t.1.1) (behind t.0) t.1.2 },
+          record { got = r.got ++ t.0; took = took-more t.0 t.1.0; whole = subst (λ o. OpensWholeBy at o header r.beats t.1.1) (behind t.0) t.1.2 },
           text-written flushed,
         )
         by (fault.BadHeader bad) t rose = absurd t.1
@@ -242,7 +243,7 @@ module _ {T : Type 0} (Keeps : Meaning T) (h : History) (header : Header) (text 
           record {
             got = r.got ++ t.0;
             took = took-more t.0 (takes-consumed mid seen.left_after t.0 t.1.0);
-            whole = subst (λ o. OpensWhole o header r.beats t.1.2) (behind t.0) t.1.3;
+            whole = subst (λ o. OpensWholeBy at o header r.beats t.1.2) (behind t.0) t.1.3;
           },
           subst (λ o. length o ≡ h.limit) (behind t.0) t.1.1,
           text-written flushed,
@@ -250,30 +251,37 @@ module _ {T : Type 0} (Keeps : Meaning T) (h : History) (header : Header) (text 
 
     -- a write failed behind a fault
     pub fault-failed : (why : CapFault) → answer ≡ Err why → WriteFailed seen → BreaksOffBefore held pending seen.held_after
-        → FromBeats text h.octets h.limit header seen WriteFault
+        → FromBeatsBy at text h.octets h.limit header seen WriteFault
     fault-failed why is rose breaks = by why (told (Err why) is)
       where
-        front : AppendsFront seen.held_before seen.held_after (text.so_far header r.beats)
-        front = breaks seen.held_before (text.so_far header r.beats) r.put.wrote
+        front : AppendsFront seen.held_before seen.held_after (text.so_far r.beats)
+        front = breaks seen.held_before (text.so_far r.beats) r.put.wrote
 
-        by : (why : CapFault) → Told (Err why) → FromBeats text h.octets h.limit header seen WriteFault
+        by : (why : CapFault) → Told (Err why) → FromBeatsBy at text h.octets h.limit header seen WriteFault
         by fault.Read t =
-            failed seen r.beats (r.got ++ t.0) t.1.2.0 rose (took-more t.0 t.1.0) (subst (λ o. Opens o header r.beats t.1.2.0) (behind t.0) t.1.2.1) front
+            failed seen r.beats (r.got ++ t.0) t.1.2.0 rose (took-more t.0 t.1.0) (subst (λ o. OpensBy at o header r.beats t.1.2.0) (behind t.0) t.1.2.1) front
         by (fault.BadHeader bad) t = absurd t.1
         by fault.TooLong t =
             failed seen r.beats (r.got ++ t.0) t.1.3.0 rose (took-more t.0 (takes-consumed mid seen.left_after t.0 t.1.0))
-            (subst (λ o. Opens o header r.beats t.1.3.0) (behind t.0) t.1.3.1) front
+            (subst (λ o. OpensBy at o header r.beats t.1.3.0) (behind t.0) t.1.3.1) front
 
 -- A reader that goes on answered no fault.
-module _ (k : History) (header : Header) (b : BeatsState) where
-  goes-on : Stands b k → k.course ≡ Going → b.front ≡ front.Read header → b.reader.standing ≡ standing.Failed in_fault.Read → ⊥
+told-course : (f : Front) (h : History) (at : Standing) (pieces : List (List ℕ)) → IsSome (header_read f) → StandsAt f at pieces h
+    → h.course ≡ course_of at (length h.octets)
+told-course front.Unread h at pieces some stands = absurd cc
+told-course front.Refused h at pieces some stands = absurd cc
+told-course (front.Read header) h at pieces some stands = stands.1
+told-course (front.ReadLevels header) h at pieces some stands = stands.1
+
+module _ (k : History) (b : BeatsState) where
+  goes-on : Stands b k → k.course ≡ Going → IsSome (header_read b.front) → b.reader.standing ≡ standing.Failed in_fault.Read → ⊥
   goes-on s going read failed =
-      let at = subst (λ f. StandsAt f s.standing s.pieces k) read s.at in
       let is_failed : s.standing ≡ standing.Failed in_fault.Read = sym s.read.standing ∙ failed in
-      let course : k.course ≡ Failed fault.Read = at.2 ∙ ap (λ t. course_of t (length k.octets)) is_failed in
+      let course : k.course ≡ Failed fault.Read =
+      told-course b.front k s.standing s.pieces read s.at ∙ ap (λ t. course_of t (length k.octets)) is_failed in
       cc
 
-  pub read-rose : (first mid last : ℕ) → Stands b k → k.course ≡ Going → b.front ≡ front.Read header → first ≤ mid
+  pub read-rose : (first mid last : ℕ) → Stands b k → k.course ≡ Going → IsSome (header_read b.front) → first ≤ mid
       → Rose mid last ⊎ (b.reader.standing ≡ standing.Failed in_fault.Read) → Rose first last
   read-rose first mid last s going read later (inl rose) = rose-after first mid last later rose
   read-rose first mid last s going read later (inr failed) = absurd (goes-on s going read failed)

@@ -2,6 +2,8 @@ pub mod WritingLemmas
 pub mod PuttingLong
 pub mod Copying
 pub mod Driving
+pub mod OfKinds
+pub mod LevelsFront
 pub mod Beats
 pub mod Opened
 pub mod Completing

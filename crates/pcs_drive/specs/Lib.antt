@@ -3,4 +3,5 @@ pub mod Seen
 pub mod Writing
 pub mod LineCommand
 pub mod CaptureCommand
+pub mod FileKinds
 pub mod Tasks

@@ -1,5 +1,5 @@
 //! What the commands of the program share: text that is gathered and written in large pieces, how a
-//! command ended, and the loop over the beats of a capture.
+//! command ended, and the loop over the beats of a capture or of a file of levels.
 #![tactic(auto)]
 
 mod driver;
@@ -9,7 +9,7 @@ mod output;
 mod task;
 
 pub use driver::drive;
-pub use opening::open_capture;
+pub use opening::{open_capture, open_levels};
 pub use outcome::Outcome;
 pub use output::Output;
 pub use task::Task;

@@ -1,17 +1,16 @@
-// What a command makes of the beats of a capture.
+// What a command makes of the beats of a file.
 ghost use Rattle.std.specs.Prelude.{◌≡◌, ◌≤◌, ◌<◌, ◌+◌, ◌*◌, ◌/◌, ◌^◌, ℕ, List, length, take, drop, IfOk, OnOk, OnErr};
 ghost use Rattle.pcs_io.specs.Faults.{HasCause};
-ghost use Rattle.pcs_io.specs.declared.header.Header.{Header};
-ghost use Rattle.pcs_drive.specs.CaptureCommand.{CaptureText};
+ghost use Rattle.pcs_drive.specs.CaptureCommand.{BeatsText};
 ghost use Rattle.pcs_drive.specs.Tasks.{TakesBeat, BreaksAtBeat, TakesBeats, BreaksAtBeats, Finishes, BreaksAtEnd};
 
 use crate::Output;
 use pcs_io::{Failed, Sink};
 
-/// What a command makes of the beats of a capture. Its meaning is `Keeps`: the text that it makes,
-/// and the header and the beats for which it stands.
+/// What a command makes of the beats of a file. Its meaning is `Keeps`: the text that it makes, and
+/// the beats for which it stands.
 pub trait Task {
-    ghost Keeps: { Self → CaptureText → Header → List (List ℕ) → Type 0 };
+    ghost Keeps: { Self → BeatsText → List (List ℕ) → Type 0 };
 
     // No write failed so far.
     ghost IsReady: { Self → Type 0 };

@@ -6,10 +6,13 @@ use Rattle.pcs_watch.specs.Watching.{Seen as Watched}
 use Rattle.rate_match.specs.Kept.{debt, HasLegalGaps}
 use Rattle.rate_match.proofs.Keeping.{legal_gaps-front, legal_gaps-whole}
 use Rattle.pcs_io.specs.Faults.{Rose}
+use Rattle.pcs_io.specs.Captures.{header_at, levels_header_at}
 use Rattle.pcs_io.specs.FrameLines.{FrameLine, frame_line_at}
 use Rattle.pcs_io.specs.FrameGrammar.{frame_grammar}
 use Rattle.pcs_io.specs.BlockLines.{block_line_at}
 use Rattle.pcs_io.specs.BlockGrammar.{block_grammar}
+use Rattle.pcs_io.specs.SymbolLines.{symbol_line_at}
+use Rattle.pcs_io.specs.SymbolGrammar.{symbol_grammar}
 use Rattle.pcs_io.specs.Grammars.{Begins, AreLines}
 use Rattle.pcs_io.proofs.LineLaws.{begins-more, lines-behind}
 use Rattle.pcs_words.specs.declared.command.Command.{Command}
@@ -19,19 +22,25 @@ use Rattle.pcs_words.specs.declared.refusal.Refusal.{Refusal}
 use Rattle.pcs_words.specs.declared.refusal.Refusal.TheVariants as refusal
 use Rattle.pcs_drive.specs.Seen.{Seen, ReadFailed, WriteFailed}
 use Rattle.pcs_drive.specs.LineCommand.{Converted, OrNoMemory}
-use Rattle.pcs_drive.specs.CaptureCommand.{CaptureText, FromCapture}
+use Rattle.pcs_drive.specs.CaptureCommand.{CaptureText, FromCapture, FromLevels}
 use Rattle.pcs_drive.specs.declared.outcome.Outcome.{Outcome}
 use Rattle.pcs_drive.specs.declared.outcome.Outcome.TheVariants.{Done, ReadFault, WriteFault, NoMemory, BadLine, BadHeader, TooTight, Cut, NotAligned, TooLong}
-use Rattle.pcs_drive.proofs.Completing.{front, none-bad, none-long, converted, captured}
+use Rattle.pcs_drive.proofs.LevelsFront.{levels-stay}
+use Rattle.pcs_drive.proofs.Completing.{front, none-bad, none-long, converted, header-stays, captured}
+use Rattle.pcs_late.specs.Kr.{kr_text}
+use Rattle.pcs_late.specs.Multiplexing.{multiplexed}
+use Rattle.pcs_late.specs.Demultiplexing.{demultiplexed}
 use Rattle.pcs_top.specs.Notes.{Heard, Noted}
 use Rattle.pcs_top.specs.Texts.{block_text, unblock_text}
 use Rattle.pcs_top.specs.LineColumns.{columns_of_line, columns_of_lines}
 use Rattle.pcs_top.specs.Encoding.{Encoded, IsTooTight}
 use Rattle.pcs_top.specs.Decoding.{decoded}
 use Rattle.pcs_top.specs.Reporting.{reported}
+use Rattle.pcs_top.specs.ColumnTexts.{columned}
 use Rattle.pcs_top.specs.Migrating.{migrated}
+use Rattle.pcs_top.specs.Impairing.{impairing}
 use Rattle.pcs_top.specs.Statuses.{ByOutcome, status_of}
-use Rattle.pcs_top.specs.Top.{Answers, Performs, Runs, IsWholeCapture, InGrammar, NothingFailed, IsComplete}
+use Rattle.pcs_top.specs.Top.{Answers, Performs, Runs, IsWholeCapture, IsWholeLevels, InGrammar, NothingFailed, IsComplete}
 use Rattle.pcs_top.specs.declared.status.Status.{Status}
 use Rattle.pcs_top.specs.declared.status.Status.TheVariants as answer
 use Rattle.pcs_top.proofs.Encoding.{columns-append, one-line}
@@ -103,7 +112,15 @@ by-capture : (text : CaptureText) (seen : Seen) (octets rest : List ℕ) (status
     → IsWholeCapture text octets → length octets < 2 ^ 40 → ¬ ReadFailed seen → ¬ WriteFailed seen → ByOutcome (FromCapture text seen) status
     → (status ≡ answer.Done) ⊎ (status ≡ answer.NoMemory)
 by-capture text seen octets rest status b a within short reads writes c =
-    by-outcome status c.0 c.1 (captured text seen octets rest within.0 within.1 b a within.2 within.3 c.0 short reads writes c.2)
+    by-outcome status c.0 c.1 (captured header_at header-stays text seen octets rest within.0 within.1 b a within.2 within.3 c.0 short reads writes c.2)
+
+-- and of one on files of levels
+by-levels : (phase : ℕ) (seen : Seen) (octets rest : List ℕ) (status : Status) → seen.left_before ≡ Some octets → seen.left_after ≡ Some rest
+    → IsWholeLevels octets → length octets < 2 ^ 40 → ¬ ReadFailed seen → ¬ WriteFailed seen → ByOutcome (FromLevels (demultiplexed phase) seen) status
+    → (status ≡ answer.Done) ⊎ (status ≡ answer.NoMemory)
+by-levels phase seen octets rest status b a within short reads writes c =
+    by-outcome status c.0 c.1
+    (captured levels_header_at levels-stay (demultiplexed phase) seen octets rest within.0 within.1 b a within.2 refl c.0 short reads writes c.2)
 
 answers : (watchers : List Watched) (words : Result Command Refusal) (seen : Seen) (heard : Heard) (status : Status) (octets rest : List ℕ) → seen.left_before ≡ Some octets
     → seen.left_after ≡ Some rest
@@ -123,12 +140,17 @@ answers watchers (Ok (command.Migrate options)) seen heard status octets rest b 
     by-capture (migrated options.skew) seen octets rest status b a within short nothing.reads nothing.writes c
 answers watchers (Ok (command.Report options)) seen heard status octets rest b a within short nothing c =
     by-capture (reported watchers options.skew) seen octets rest status b a within short nothing.reads nothing.writes c
-answers watchers (Ok (command.Columns options)) seen heard status octets rest b a within short nothing c = absurd within
-answers watchers (Ok (command.Impair items)) seen heard status octets rest b a within short nothing c = absurd within
+answers watchers (Ok (command.Columns options)) seen heard status octets rest b a within short nothing c =
+    by-capture (columned options.skew) seen octets rest status b a within short nothing.reads nothing.writes c
+answers watchers (Ok (command.Impair items)) seen heard status octets rest b a within short nothing c =
+    by-capture (impairing items) seen octets rest status b a within short nothing.reads nothing.writes c
 answers watchers (Ok (command.Trial options)) seen heard status octets rest b a within short nothing c = absurd within
-answers watchers (Ok (command.Mux options)) seen heard status octets rest b a within short nothing c = absurd within
-answers watchers (Ok (command.Demux options)) seen heard status octets rest b a within short nothing c = absurd within
-answers watchers (Ok command.Kr) seen heard status octets rest b a within short nothing c = absurd within
+answers watchers (Ok (command.Mux options)) seen heard status octets rest b a within short nothing c =
+    by-capture (multiplexed options.precode) seen octets rest status b a within short nothing.reads nothing.writes c
+answers watchers (Ok (command.Demux options)) seen heard status octets rest b a within short nothing c =
+    by-levels options.phase seen octets rest status b a within short nothing.reads nothing.writes c
+answers watchers (Ok command.Kr) seen heard status octets rest b a within short nothing c =
+    by-lines (Converted symbol_line_at kr_text) seen status c (λ outcome d. converted symbol_line_at symbol_grammar kr_text seen octets rest within.0 outcome b a within.1 short nothing.reads nothing.writes d)
 answers watchers (Ok (command.Pcap options)) seen heard status octets rest b a within short nothing c = absurd within
 
 pub complete : (watchers : List Watched) (words : Result Command Refusal) (seen : Seen) (heard : Heard) (status : Status)

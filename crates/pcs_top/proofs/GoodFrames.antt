@@ -5,13 +5,12 @@ use Rattle.std.proofs.lemmas.List.Concat.{flat_map-append}
 use Rattle.std.proofs.lemmas.List.Elements.{filter_map-append}
 use Rattle.hex.specs.Hex.{encode_lower}
 use Rattle.pcs_io.specs.Octets.{AppendsFront}
-use Rattle.pcs_io.specs.declared.header.Header.{Header}
 use Rattle.pcs_receive.specs.Events.{Event, frame, good, frame_of_event}
 use Rattle.pcs_receive.specs.declared.event.Event.TheVariants as answer
 use Rattle.pcs_receive.specs.declared.event.Event.{Event as Answer}
 use Rattle.pcs_receive.specs.Hearings.{IsAnswer}
 use Rattle.pcs_receive.specs.State.{State}
-use Rattle.pcs_drive.specs.CaptureCommand.{CaptureText}
+use Rattle.pcs_drive.specs.CaptureCommand.{BeatsText}
 use Rattle.pcs_drive.specs.Writing.{Wrote, Puts, BreaksOffBefore}
 use Rattle.pcs_drive.proofs.WritingLemmas.{front-more, wrote-none}
 use Rattle.pcs_top.specs.Decoding.{good_text, told_frames}
@@ -108,24 +107,24 @@ good-is-told : (period skew : ℕ) → good_text period skew ≡ listening told_
 unfolding good
 good-is-told period skew = refl
 
-no-good : (period skew : ℕ) (header : Header) (x : State) → HasBegun x period skew false → (good_text period skew).so_far header [] ≡ []
-no-good period skew header x b =
-    ap (λ (t : CaptureText). t.so_far header []) (good-is-told period skew) ∙ ap told_frames.so_far (no-events false x period skew b) ∙ no-frames
+no-good : (period skew : ℕ) (x : State) → HasBegun x period skew false → (good_text period skew).so_far [] ≡ []
+no-good period skew x b =
+    ap (λ (t : BeatsText). t.so_far []) (good-is-told period skew) ∙ ap told_frames.so_far (no-events false x period skew b) ∙ no-frames
 
 -- a receiver that was just opened
-pub good-start : {T : Type 0} (teller : T) (x : State) (period skew : ℕ) (header : Header) (start : Option (List ℕ)) → HasBegun x period skew false
+pub good-start : {T : Type 0} (teller : T) (x : State) (period skew : ℕ) (start : Option (List ℕ)) → HasBegun x period skew false
     → IsListening (TellsFrames {T = T}) x teller false (good_text period skew) []
-good-start {T} teller x period skew header start b =
+good-start {T} teller x period skew start b =
     subst (λ text. IsListening (TellsFrames {T = T}) x teller false text []) (sym (good-is-told period skew))
     (listening-start TellsFrames x teller told_frames false period skew b refl frames-grow)
 
-pub good-grows : (period skew : ℕ) (header : Header) (beats more : List (List ℕ))
-    → (rest : List ℕ) × ((good_text period skew).so_far header (beats ++ more) ≡ (good_text period skew).so_far header beats ++ rest)
-good-grows period skew header beats more =
+pub good-grows : (period skew : ℕ) (beats more : List (List ℕ))
+    → (rest : List ℕ) × ((good_text period skew).so_far (beats ++ more) ≡ (good_text period skew).so_far beats ++ rest)
+good-grows period skew beats more =
     let (rest, goes) = listening-grows told_frames false period skew frames-grow beats more in
-    let same = λ (bs : List (List ℕ)). ap (λ (t : CaptureText). t.so_far header bs) (good-is-told period skew) in
+    let same = λ (bs : List (List ℕ)). ap (λ (t : BeatsText). t.so_far bs) (good-is-told period skew) in
     (rest, same (beats ++ more) ∙ goes ∙ ap (λ t. t ++ rest) (sym (same beats)))
 
-pub good-none : (period skew : ℕ) (header : Header) (x : State) (start : Option (List ℕ)) (pending : List ℕ) → HasBegun x period skew false → pending ≡ []
-    → Wrote start start ((good_text period skew).so_far header []) pending
-good-none period skew header x start pending b empty = wrote-none start _ pending (no-good period skew header x b) empty
+pub good-none : (period skew : ℕ) (x : State) (start : Option (List ℕ)) (pending : List ℕ) → HasBegun x period skew false → pending ≡ []
+    → Wrote start start ((good_text period skew).so_far []) pending
+good-none period skew x start pending b empty = wrote-none start _ pending (no-good period skew x b) empty

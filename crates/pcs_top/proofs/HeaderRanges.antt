@@ -1,51 +1,30 @@
--- The ranges of a header that was read.
-use Rattle.std.proofs.Common.{◌≡◌, ℕ, Bool, true, false, cond, List, [], ◌∷◌, Some, Result, Ok, Err, refl, subst, arith, inl, inr, take, drop}
-use Rattle.std.specs.Prelude.{nat_le}
-use Rattle.std.specs.List.{AllByRecursion}
-use Rattle.std.proofs.lemmas.Bool.{cases_Bool, and_parts, leb-true}
-use Rattle.pcs_io.specs.Headers.{Field, first_wrong, header_or, fields, fields2, header_of, header2_of, IsInRange}
-use Rattle.pcs_io.specs.Captures.{Whole, Short, settled, header_at, is_version2}
+-- A header that was read can be written again.
+use Rattle.std.proofs.Common.{◌≡◌, ℕ, List, Ok, refl, sym, ap, subst, arith}
+use Rattle.std.proofs.lemmas.Bool.{and_parts, leb-true}
+use Rattle.pcs_io.specs.Headers.{fields, fields2, header_of, header2_of, IsHeader}
+use Rattle.pcs_io.specs.Captures.{Whole, header_at}
 use Rattle.pcs_io.specs.declared.header.Header.{Header}
-use Rattle.pcs_io.specs.declared.header.BadHeader.{BadHeader}
+use Rattle.pcs_io.proofs.HeaderRanges.{none-wrong, ranged2, header-has}
+use Rattle.pcs_top.specs.Giving.{IsRead}
 
-abbrev AreRight : List Field → Type 0
-AreRight fs = AllByRecursion (λ f. f.right ≡ true) fs
-
-none-wrong : (fs : List Field) (h got : Header) → header_or (first_wrong fs) h ≡ Ok got → AreRight fs × (h ≡ got)
-none-wrong [] h got is = (tt, cc)
-none-wrong (f ∷ fs) h got is = elim (cases_Bool f.right) [
-  | inl right ↦ let rest = none-wrong fs h got (rw right at is) in ((right, rest.0), rest.1)
-  | inr wrong ↦ absurd (let bad : header_or (Some f.place) h ≡ Ok got = rw wrong at is in cc)
-]
-
-ranged1 : (octets : List ℕ) (got : Header) → header_of octets ≡ Ok got → IsInRange got
+-- a header of version 1 or 2
+read1 : (octets : List ℕ) (got : Header) → header_of octets ≡ Ok got → IsRead got
 unfolding header_of
-ranged1 octets got is =
+read1 octets got is =
     let right = none-wrong (fields octets) _ got is in
     let both = and_parts _ _ right.0.1.1.1.0 in
-    subst IsInRange right.1 (record { least = leb-true _ _ both.0; most = omega (arith, leb-true _ _ both.1); skew = omega arith })
+    let written : IsHeader got = subst IsHeader right.1 (record { version = refl; least = leb-true _ _ both.0; most = leb-true _ _ both.1; skew = refl }) in
+    record { first = λ one. written; second = λ other. absurd (other written.version) }
 
-ranged2 : (octets : List ℕ) (got : Header) → header2_of octets ≡ Ok got → IsInRange got
+read2 : (octets : List ℕ) (got : Header) → header2_of octets ≡ Ok got → IsRead got
 unfolding header2_of
-ranged2 octets got is =
-    let right = none-wrong (fields2 octets) _ got is in
-    let both = and_parts _ _ right.0.1.1.1.1.0 in
-    subst IsInRange right.1 (record { least = leb-true _ _ both.0; most = leb-true _ _ both.1; skew = leb-true _ _ right.0.1.1.1.1.1.0 })
+read2 octets got is =
+    let ranged = ranged2 octets got is in
+    let version : got.version ≡ 2 = ap (λ h. h.version) (sym (none-wrong (fields2 octets) _ got is).1) in
+    record {
+      first = λ one. absurd (omega (arith, one, version));
+      second = λ other. record { version = version; least = ranged.least; most = ranged.most; skew = ranged.skew };
+    }
 
-settled-ranged : (r : Result Header BadHeader) (rest behind : List ℕ) (got : Header) → ((h : Header) → r ≡ Ok h → IsInRange h)
-    → settled r rest ≡ Whole got behind → IsInRange got
-settled-ranged (Ok h) rest behind got ranged is = let same : h ≡ got = cc in subst IsInRange same (ranged h refl)
-settled-ranged (Err bad) rest behind got ranged is = absurd (cc)
-
--- a header that octets begin with is in range
-pub header-ranged : (octets : List ℕ) (got : Header) (behind : List ℕ) → header_at octets ≡ Whole got behind → IsInRange got
-unfolding header_at
-header-ranged octets got behind is = by (nat_le 16 _) (is_version2 octets) (nat_le 32 _) is
-  where
-    by : (a b c : Bool)
-        → cond a (cond b (cond c (settled (header2_of (take 32 octets)) (drop 32 octets)) Short) (settled (header_of (take 16 octets)) (drop 16 octets))) Short ≡ Whole got behind
-        → IsInRange got
-    by false b c is = absurd (cc)
-    by true true true is = settled-ranged _ _ behind got (ranged2 (take 32 octets)) is
-    by true true false is = absurd (cc)
-    by true false c is = settled-ranged _ _ behind got (ranged1 (take 16 octets)) is
+pub header-read : (octets : List ℕ) (got : Header) (behind : List ℕ) → header_at octets ≡ Whole got behind → IsRead got
+header-read octets got behind is = header-has IsRead octets got behind (λ front. read1 front got) (λ front. read2 front got) is

@@ -15,7 +15,7 @@ use Rattle.pcs_receive.specs.Headline.{AlignsAt, HasAtMostWrong, named_frames}
 use Rattle.pcs_receive.proofs.Headline.{headline_of_items, alignment_is_told}
 use Rattle.pcs_receive.proofs.WholeCapture.{any_damage_overall}
 use Rattle.pcs_io.specs.FrameLines.{FrameLine, Frame, Set}
-use Rattle.pcs_io.specs.Captures.{OpensWhole}
+use Rattle.pcs_io.specs.Captures.{header_at, OpensWhole}
 use Rattle.pcs_io.specs.declared.header.Header.{Header}
 use Rattle.pcs_io.specs.declared.header.BadHeader.{BadHeader as Refused}
 use Rattle.pcs_watch.specs.Watching.{Seen as Watched}
@@ -23,10 +23,10 @@ use Rattle.pcs_words.specs.declared.command.Command.{Command}
 use Rattle.pcs_words.specs.declared.command.Command.TheVariants as command
 use Rattle.pcs_words.specs.declared.refusal.Refusal.{Refusal}
 use Rattle.pcs_drive.specs.Seen.{Seen, Written}
-use Rattle.pcs_drive.specs.CaptureCommand.{CaptureText, FromBeats, FromCapture, TookAllBeats, outcome_at_end}
+use Rattle.pcs_drive.specs.CaptureCommand.{BeatsText, CaptureText, FromBeats, FromCapture, TookAllBeatsBy, outcome_at_end}
 use Rattle.pcs_drive.specs.declared.outcome.Outcome.{Outcome}
 use Rattle.pcs_drive.specs.declared.outcome.Outcome.TheVariants.{Done, ReadFault, WriteFault, NoMemory, BadLine, BadHeader, TooTight, Cut, NotAligned, TooLong}
-use Rattle.pcs_drive.proofs.Completing.{front, all, opens-alone, captured}
+use Rattle.pcs_drive.proofs.Completing.{front, all, opens-alone, header-stays, captured}
 use Rattle.pcs_top.specs.Decoding.{good_text, decoded, skew_limit}
 use Rattle.pcs_top.specs.EventTexts.{capture, has_alignment}
 use Rattle.pcs_top.specs.Laws.{IsSent}
@@ -38,32 +38,31 @@ use Rattle.pcs_top.specs.Top.{Performs, Runs}
 use Rattle.pcs_top.specs.Headlines.{HasWholeCapture, columns_sent, GivesNamedFrames, GivesUnmarkedFrames, BehindHeadline, OfDecode, Headline, AnyDamage, DecodeHeadline, DecodeAnyDamage}
 use Rattle.pcs_top.specs.declared.status.Status.{Status}
 use Rattle.pcs_top.proofs.Completeness.{noted}
-use Rattle.pcs_top.proofs.HeaderRanges.{header-ranged}
+use Rattle.pcs_io.proofs.HeaderRanges.{header-ranged}
 
 -- ---- the answer on a whole capture
 -- the answer at the end of whole beats, and the whole text
-abbrev IsWhole : CaptureText → Header → List (List ℕ) → Seen → Outcome → Type 0
-IsWhole text header beats seen outcome =
-    (outcome ≡ outcome_at_end 0 (text.is_aligned header beats)) × Written seen (text.whole header beats)
+abbrev IsWhole : BeatsText → List (List ℕ) → Seen → Outcome → Type 0
+IsWhole text beats seen outcome = (outcome ≡ outcome_at_end 0 (text.is_aligned beats)) × Written seen (text.whole beats)
 
 module _ (text : CaptureText) (before : List ℕ) (limit : ℕ) (header : Header) (beats : List (List ℕ)) (seen : Seen)
     (w : HasWholeCapture before limit header beats seen) where
   -- what was taken to the end is this header and these beats
-  taken-alone : (other : Header) (others : List (List ℕ)) (over : ℕ) → (t : TookAllBeats before limit other seen others over)
+  taken-alone : (other : Header) (others : List (List ℕ)) (over : ℕ) → (t : TookAllBeatsBy header_at before limit other seen others over)
       → (header ≡ other) × (beats ≡ others) × (0 ≡ over)
   taken-alone other others over t =
-      opens-alone (before ++ t.got) header other beats others 0 over
+      opens-alone header_at (before ++ t.got) header other beats others 0 over
       (subst (λ os. OpensWhole (before ++ os) header beats 0) (all seen w.octets w.rest t.got w.had w.left t.took) w.whole) t.whole
 
   at-end : (aligned : Bool) (end : Outcome) (other : Header) (others : List (List ℕ)) → outcome_at_end 0 aligned ≡ end
-      → TookAllBeats before limit other seen others 0 → text.is_aligned other others ≡ aligned → Written seen (text.whole other others)
-      → IsWhole text header beats seen end
+      → TookAllBeatsBy header_at before limit other seen others 0 → (text other).is_aligned others ≡ aligned → Written seen ((text other).whole others)
+      → IsWhole (text header) beats seen end
   at-end aligned end other others ends taken is written =
       let same = taken-alone other others 0 taken in
-      subst (λ hd. IsWhole text hd beats seen end) (sym same.0) (subst (λ bs. IsWhole text other bs seen end) (sym same.1)
+      subst (λ hd. IsWhole (text hd) beats seen end) (sym same.0) (subst (λ bs. IsWhole (text other) bs seen end) (sym same.1)
       (sym ends ∙ ap (outcome_at_end 0) (sym is), written))
 
-  pub behind : (other : Header) (outcome : Outcome) → FromBeats text before limit other seen outcome → IsWhole text header beats seen outcome
+  pub behind : (other : Header) (outcome : Outcome) → FromBeats (text other) before limit other seen outcome → IsWhole (text header) beats seen outcome
   behind other Done c = at-end true Done other c.0 refl c.1 c.2 c.3
   behind other ReadFault c = absurd (w.reads c.2)
   behind other WriteFault c = absurd (w.writes c.1)
@@ -80,20 +79,20 @@ module _ (text : CaptureText) (before : List ℕ) (limit : ℕ) (header : Header
 
 -- a refusal has nothing to do with the text, so take one that asks for no alignment
 abbrev no_text : CaptureText
-no_text = record { so_far = λ h bs. []; whole = λ h bs. []; is_aligned = λ h bs. true }
+no_text header = record { so_far = λ bs. []; whole = λ bs. []; is_aligned = λ bs. true }
 
 -- a capture's header isn't refused
 no-refusal : (header : Header) (beats : List (List ℕ)) (seen : Seen) (bad : Refused) → HasWholeCapture [] (2 ^ 40) header beats seen
     → FromCapture no_text seen (BadHeader bad) → ⊥
 no-refusal header beats seen bad w c =
-    none (captured no_text seen w.octets w.rest header beats w.had w.left w.whole refl (BadHeader bad) w.short w.reads w.writes c)
+    none (captured header_at header-stays no_text seen w.octets w.rest header beats w.had w.left w.whole refl (BadHeader bad) w.short w.reads w.writes c)
   where
     none : (BadHeader bad ≡ Done) ⊎ (BadHeader bad ≡ NoMemory) → ⊥
     none (inl same) = cc
     none (inr same) = cc
 
 whole-capture : (text : CaptureText) (header : Header) (beats : List (List ℕ)) (seen : Seen) (outcome : Outcome)
-    → HasWholeCapture [] (2 ^ 40) header beats seen → FromCapture text seen outcome → IsWhole text header beats seen outcome ⊎ (outcome ≡ NoMemory)
+    → HasWholeCapture [] (2 ^ 40) header beats seen → FromCapture text seen outcome → IsWhole (text header) beats seen outcome ⊎ (outcome ≡ NoMemory)
 whole-capture text header beats seen Done w c = inl (behind text [] (2 ^ 40) header beats seen w c.0 Done c.1)
 whole-capture text header beats seen ReadFault w (inl c) = absurd (w.reads c.1)
 whole-capture text header beats seen ReadFault w (inr c) = absurd (w.reads c.1.2)
@@ -178,7 +177,7 @@ Follows G = (period skew : ℕ) (beats : List (List ℕ)) (seen : Seen) (status 
 behind-headline : (G : Gives) → Follows G → (before : List ℕ) (limit : ℕ) (header : Header) (period skew : ℕ) (seen : Seen) (status : Status)
     → ByOutcome (FromBeats (good_text period skew) before limit header seen) status → BehindHeadline G before limit header period skew seen status
 behind-headline G follows before limit header period skew seen status b beats w less =
-    let is = behind (good_text period skew) before limit header beats seen w header b.0 b.2 in
+    let is = behind (λ h. good_text period skew) before limit header beats seen w header b.0 b.2 in
     follows period skew beats seen status (omega (arith, less)) (b.1 ∙ ap status_of is.0, is.1)
 
 pub headline : (before : List ℕ) (limit : ℕ) (header : Header) (period skew : ℕ) (seen : Seen) (status : Status)
@@ -204,7 +203,7 @@ of-decode G follows watchers words seen heard status runs options header beats i
     less : 2 * skew < 680 * header.period
     less = let range = header-ranged w.octets header w.whole.1.0 w.whole.1.1 in omega (arith, range.least, range.skew)
 
-    by : (outcome : Outcome) → runs.0 ≡ status_of outcome → IsWhole (decoded options.skew) header beats seen outcome ⊎ (outcome ≡ NoMemory)
+    by : (outcome : Outcome) → runs.0 ≡ status_of outcome → IsWhole (decoded options.skew header) beats seen outcome ⊎ (outcome ≡ NoMemory)
         → G header.period skew beats seen status
     by outcome named (inl whole) = follows header.period skew beats seen status less (same ∙ named ∙ ap status_of whole.0, whole.1)
     by outcome named (inr none) = absurd (enough (same ∙ named ∙ ap status_of none))

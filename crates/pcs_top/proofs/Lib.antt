@@ -1,4 +1,4 @@
-pub mod Columns
+pub mod PuttingBlocks
 pub mod LineTexts
 pub mod Rows
 pub mod Completeness
@@ -11,11 +11,16 @@ pub mod PuttingMore
 pub mod Framing
 pub mod Encoding
 pub mod Telling
-pub mod ByHeader
 pub mod HeaderRanges
+pub mod HeadersKept
 pub mod Headlines
 pub mod GoodFrames
 pub mod Migrating
+pub mod Impairing
+pub mod GivingBeats
+pub mod Migrated
 pub mod EventLines
 pub mod TallyLines
 pub mod ReportText
+pub mod ColumnText
+pub mod ColumnPairs

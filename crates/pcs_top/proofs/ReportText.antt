@@ -4,7 +4,6 @@ use Rattle.std.specs.Prelude.{◌≢◌}
 use Rattle.std.proofs.lemmas.List.Concat.{flat_map-append}
 use Rattle.std.proofs.lemmas.List.Elements.{filter_map-append}
 use Rattle.pcs_io.specs.Octets.{AppendsFront}
-use Rattle.pcs_io.specs.declared.header.Header.{Header}
 use Rattle.pcs_watch.specs.declared.Report.{Report}
 use Rattle.pcs_watch.specs.Watching.{Seen as Watched, told_all, left_after}
 use Rattle.pcs_watch.proofs.Reports.{told_reports}
@@ -116,13 +115,13 @@ report-start teller watchers first x period skew aligned same b none_yet =
     none : Report
     none = record { pair = 0; a = None; b = None; wrong = [] }
 
-pub reports-grow : (first : List Watched) (period skew : ℕ) (header : Header) (beats more : List (List ℕ))
-    → (rest : List ℕ) × ((report_text first period skew).so_far header (beats ++ more) ≡ (report_text first period skew).so_far header beats ++ rest)
-reports-grow first period skew header beats more = listening-grows (told_report first) false period skew (report-grows first) beats more
+pub reports-grow : (first : List Watched) (period skew : ℕ) (beats more : List (List ℕ))
+    → (rest : List ℕ) × ((report_text first period skew).so_far (beats ++ more) ≡ (report_text first period skew).so_far beats ++ rest)
+reports-grow first period skew beats more = listening-grows (told_report first) false period skew (report-grows first) beats more
 
-pub report-none : (first : List Watched) (period skew : ℕ) (header : Header) (x : State) (start : Option (List ℕ)) (pending : List ℕ)
-    → HasBegun x period skew false → pending ≡ [] → Wrote start start ((report_text first period skew).so_far header []) pending
-report-none first period skew header x start pending b empty =
+pub report-none : (first : List Watched) (period skew : ℕ) (x : State) (start : Option (List ℕ)) (pending : List ℕ)
+    → HasBegun x period skew false → pending ≡ [] → Wrote start start ((report_text first period skew).so_far []) pending
+report-none first period skew x start pending b empty =
     wrote-none start _ pending (ap event_lines (no-events false x period skew b) ∙ no-lines) empty
 
 -- an answer other than a report changes no watchers

@@ -12,12 +12,11 @@ use Rattle.pcs_receive.specs.Events.{Event}
 use Rattle.pcs_receive.specs.declared.event.Event.TheVariants as answer
 use Rattle.pcs_receive.specs.declared.event.Event.{Event as Answer}
 use Rattle.lane_deskew.specs.declared.Order.{Order}
-use Rattle.pcs_io.specs.declared.header.Header.{Header}
 use Rattle.pcs_receive.specs.Hearings.{Hearing, with_beat, with_event, next_event, last_event, events_of, events_by, IsAnswer, Answers}
 use Rattle.pcs_receive.specs.State.{State, Stands}
 use Rattle.pcs_receive.proofs.Prefix.{events-longer, column_events-longer}
 use Rattle.pcs_receive.proofs.Taking.{drained-left}
-use Rattle.pcs_drive.specs.CaptureCommand.{CaptureText}
+use Rattle.pcs_drive.specs.CaptureCommand.{BeatsText}
 use Rattle.pcs_drive.specs.Writing.{Wrote}
 use Rattle.pcs_drive.proofs.WritingLemmas.{front-more}
 use Rattle.pcs_top.specs.EventTexts.{is_alignment, has_alignment, EventText, capture, listening, Meaning, Grows, HasTold, TellsEvent, BreaksAtEvent, hearing, IsListening, HasBegun}
@@ -86,7 +85,7 @@ module _ {T : Type 0} (Keeps : Meaning T) where
       }
 
   -- Some events of these beats were given and told.
-  pub record IsTelling (x : State) (teller : T) (aligned : Bool) (text : CaptureText) (beats : List (List ℕ)) (start held : Option (List ℕ)) (pending : List ℕ) : Type 0 where
+  pub record IsTelling (x : State) (teller : T) (aligned : Bool) (text : BeatsText) (beats : List (List ℕ)) (start held : Option (List ℕ)) (pending : List ℕ) : Type 0 where
     pub told : EventText
     pub columns : Bool
     pub period : ℕ
@@ -99,7 +98,7 @@ module _ {T : Type 0} (Keeps : Meaning T) where
     pub put : HasTold Keeps teller told (take count (events_by columns (capture period beats) skew)) start held pending
 
   -- a beat comes behind those whose events were all told
-  pub telling-start : (old new : State) (beat : List ℕ) (teller : T) (aligned : Bool) (text : CaptureText) (beats : List (List ℕ)) (start held : Option (List ℕ)) (pending : List ℕ)
+  pub telling-start : (old new : State) (beat : List ℕ) (teller : T) (aligned : Bool) (text : BeatsText) (beats : List (List ℕ)) (start held : Option (List ℕ)) (pending : List ℕ)
       (header-text : List ℕ) → (l : IsListening Keeps old teller aligned text beats)
       → header-text ≡ l.told.so_far (events_by l.columns (capture l.period beats) l.skew) → Wrote start held header-text pending
       → ((h : Hearing) → Stands old h → Stands new (with_beat h beat))
@@ -124,7 +123,7 @@ module _ {T : Type 0} (Keeps : Meaning T) where
             (record { keeps = l.keeps; grows = l.grows; wrote = subst (λ t. Wrote start held t pending) same wrote });
       }
 
-  module _ (old new : State) (teller : T) (event : Answer) (aligned : Bool) (text : CaptureText) (beats : List (List ℕ)) (start held : Option (List ℕ)) (pending : List ℕ)
+  module _ (old new : State) (teller : T) (event : Answer) (aligned : Bool) (text : BeatsText) (beats : List (List ℕ)) (start held : Option (List ℕ)) (pending : List ℕ)
       (t : IsTelling old teller aligned text beats start held pending)
       (answers : (h : Hearing) → Stands old h → Answers (Some event) (next_event h))
       (stands : (h : Hearing) → Stands old h → Stands new (with_event h)) where
@@ -184,7 +183,7 @@ module _ {T : Type 0} (Keeps : Meaning T) where
         (front-more start held_now (t.told.so_far told) rest (subst (λ ts. AppendsFront start held_now (t.told.so_far ts)) (sym next) front))
 
   -- no event is left
-  pub telling-all : (old new : State) (teller : T) (aligned : Bool) (text : CaptureText) (beats : List (List ℕ)) (start held : Option (List ℕ)) (pending : List ℕ)
+  pub telling-all : (old new : State) (teller : T) (aligned : Bool) (text : BeatsText) (beats : List (List ℕ)) (start held : Option (List ℕ)) (pending : List ℕ)
       → IsTelling old teller aligned text beats start held pending
       → ((h : Hearing) → Stands old h → Answers None (next_event h)) → ((h : Hearing) → Stands old h → Stands new h)
       → IsListening Keeps new teller aligned text beats
@@ -208,15 +207,15 @@ module _ {T : Type 0} (Keeps : Meaning T) where
       }
 
   -- all text is put then
-  pub telling-wrote : (old : State) (teller : T) (aligned : Bool) (text : CaptureText) (header : Header) (beats : List (List ℕ)) (start held : Option (List ℕ)) (pending : List ℕ)
+  pub telling-wrote : (old : State) (teller : T) (aligned : Bool) (text : BeatsText) (beats : List (List ℕ)) (start held : Option (List ℕ)) (pending : List ℕ)
       → IsTelling old teller aligned text beats start held pending
-      → ((h : Hearing) → Stands old h → Answers None (next_event h)) → Wrote start held (text.so_far header beats) pending
+      → ((h : Hearing) → Stands old h → Answers None (next_event h)) → Wrote start held (text.so_far beats) pending
   unfolding Answers next_event events_of
-  telling-wrote old teller aligned text header beats start held pending t answers =
+  telling-wrote old teller aligned text beats start held pending t answers =
       let es = events_by t.columns (capture t.period beats) t.skew in
       let past : length es ≤ t.count = all-given es t.count (answers (hearing t.columns t.period t.skew beats t.count) t.stands) in
       let whole : take t.count es ≡ es = take_all t.count es past in
-      subst (λ x. Wrote start held x pending) (ap t.told.so_far whole ∙ sym (ap (λ (c : CaptureText). c.so_far header beats) t.is)) t.put.wrote
+      subst (λ x. Wrote start held x pending) (ap t.told.so_far whole ∙ sym (ap (λ (c : BeatsText). c.so_far beats) t.is)) t.put.wrote
 
 -- the answer is an alignment
 abbrev pub is_aligned : Answer → Bool

@@ -4,7 +4,7 @@ use Rattle.std.specs.Prelude.{◌≡◌, ℕ, Bool, true, false, List, [], ◌�
 use Rattle.std.specs.List.{list_any}
 use Rattle.pcs_bits.specs.Captures.{Capture}
 use Rattle.pcs_io.specs.Octets.{AppendsFront}
-use Rattle.pcs_drive.specs.CaptureCommand.{CaptureText}
+use Rattle.pcs_drive.specs.CaptureCommand.{BeatsText}
 use Rattle.pcs_drive.specs.Writing.{Wrote}
 use Rattle.pcs_receive.specs.Events.{Event, alignment}
 use Rattle.pcs_receive.specs.Hearings.{Hearing, begun, events_by}
@@ -29,11 +29,11 @@ abbrev pub capture : ℕ → List (List ℕ) → Capture
 capture period beats = record { period = period; beats = beats }
 
 -- The text of the events of beats, for a period and a limit of the skew. `columns` tells whether columns are told in place of frames.
-abbrev pub listening : EventText → Bool → ℕ → ℕ → CaptureText
+abbrev pub listening : EventText → Bool → ℕ → ℕ → BeatsText
 listening text columns period skew = record {
-  so_far = λ header beats. text.so_far (events_by columns (capture period beats) skew);
-  whole = λ header beats. text.whole (events_by columns (capture period beats) skew);
-  is_aligned = λ header beats. has_alignment (events_by columns (capture period beats) skew);
+  so_far = λ beats. text.so_far (events_by columns (capture period beats) skew);
+  whole = λ beats. text.whole (events_by columns (capture period beats) skew);
+  is_aligned = λ beats. has_alignment (events_by columns (capture period beats) skew);
 }
 
 abbrev pub Meaning : Type 0 → Type 1
@@ -78,7 +78,7 @@ abbrev pub hearing : Bool → ℕ → ℕ → List (List ℕ) → ℕ → Hearin
 hearing columns period skew beats told = record { skew = skew; columns = columns; heard = capture period beats; told = told }
 
 -- All events of these beats were given and told. `aligned` tells whether an alignment was among them.
-pub record IsListening {T : Type 0} (Keeps : Meaning T) (x : State) (teller : T) (aligned : Bool) (text : CaptureText) (beats : List (List ℕ)) : Type 0 where
+pub record IsListening {T : Type 0} (Keeps : Meaning T) (x : State) (teller : T) (aligned : Bool) (text : BeatsText) (beats : List (List ℕ)) : Type 0 where
   pub told : EventText
   pub columns : Bool
   pub period : ℕ

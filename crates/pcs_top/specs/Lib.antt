@@ -12,4 +12,7 @@ pub mod EventTexts
 pub mod Decoding
 pub mod Headlines
 pub mod Migrating
+pub mod Impairing
+pub mod Giving
 pub mod Reporting
+pub mod ColumnTexts

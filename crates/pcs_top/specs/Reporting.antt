@@ -9,7 +9,7 @@ use Rattle.lane_deskew.specs.declared.Order.{Order}
 use Rattle.pcs_watch.specs.declared.Report.{Report}
 use Rattle.pcs_watch.specs.Watching.{Seen as Watched, told_all, left_after}
 use Rattle.pcs_receive.specs.Events.{Event, failure, alignment, report, frame, frame_dropped, lost, group, column, events}
-use Rattle.pcs_drive.specs.CaptureCommand.{CaptureText}
+use Rattle.pcs_drive.specs.CaptureCommand.{BeatsText, CaptureText}
 use Rattle.pcs_top.specs.EventTexts.{EventText, capture, has_alignment}
 use Rattle.pcs_top.specs.Decoding.{by_header}
 
@@ -99,11 +99,11 @@ told_report watchers = record {
 }
 
 -- the text of a report, for a period and a limit of the skew
-abbrev pub report_text : List Watched → ℕ → ℕ → CaptureText
+abbrev pub report_text : List Watched → ℕ → ℕ → BeatsText
 report_text watchers period skew = record {
-  so_far = λ header beats. event_lines (events (capture period beats) skew 0);
-  whole = λ header beats. (told_report watchers).whole (events (capture period beats) skew 0);
-  is_aligned = λ header beats. has_alignment (events (capture period beats) skew 0);
+  so_far = λ beats. event_lines (events (capture period beats) skew 0);
+  whole = λ beats. (told_report watchers).whole (events (capture period beats) skew 0);
+  is_aligned = λ beats. has_alignment (events (capture period beats) skew 0);
 }
 
 abbrev pub reported : List Watched → ℕ → CaptureText

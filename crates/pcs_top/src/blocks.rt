@@ -125,8 +125,9 @@ fn put_set<W: Sink>(
     Ok(())
 }
 
-// The line of a block.
-fn line_of(block: &Block) -> [u8; LINE]
+/// The line of a block.
+#[inline]
+pub fn line_of(block: &Block) -> [u8; LINE]
     ensures { result ≡ block_line block.now }
 {
     let mut line = [b'\n'; LINE];

@@ -2,10 +2,12 @@
 #![tactic(auto)]
 
 mod blocks;
+mod columns;
 mod decode;
 mod encode;
 mod event_lines;
 mod idle_pairs;
+mod impair;
 mod laws;
 mod listening;
 mod migrate;
@@ -20,7 +22,9 @@ mod unblock;
 pub use blocks::blocks_opened;
 pub use decode::decode_opened;
 pub use encode::encode_opened;
-pub use laws::unblock_undoes_blocks;
+pub use laws::{
+    captures_are_migrated, columns_fill_pairs, headers_are_kept, unblock_undoes_blocks,
+};
 pub use pcs_words::Cause;
 pub use status::Status;
 pub use top::run;

@@ -37,7 +37,7 @@ impl<T: Teller> Task for Listening<'_, T> {
     ghost use Rattle.pcs_receive.specs.State.{IsDrained};
     ghost use Rattle.pcs_top.specs.EventTexts.{IsListening};
 
-    ghost Keeps = { λ x text header beats. IsListening T.Keeps x.receiver.now x.teller x.aligned text beats };
+    ghost Keeps = { λ x text beats. IsListening T.Keeps x.receiver.now x.teller x.aligned text beats };
 
     ghost IsReady = { λ x. IsDrained x.receiver.now × (T.weight x.teller ≤ 6400 * x.receiver.now.aligner.beats) };
 
@@ -51,9 +51,9 @@ impl<T: Teller> Task for Listening<'_, T> {
     ) -> Result<(), Failed> {
         self.receiver.take(beat);
         self.receiver.has_few_left();
-        while let Some(event) = self.receiver.next() {
-            self.aligned = aligned_after(self.aligned, &event);
-            self.teller.tell(&event, self.receiver, output, sink)?;
+        while let Some(event) = &self.receiver.next() {
+            self.aligned = aligned_after(self.aligned, event);
+            self.teller.tell(event, self.receiver, output, sink)?;
         }
         Ok(())
     }

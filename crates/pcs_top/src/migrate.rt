@@ -46,9 +46,10 @@ struct Copying;
 
 impl Task for Copying {
     ghost use Rattle.std.specs.Prelude.{◌≡◌, ℕ, ⊤};
+    ghost use Rattle.pcs_io.specs.declared.header.Header.{Header as HeaderValue};
     ghost use Rattle.pcs_top.specs.Migrating.{migrated};
 
-    ghost Keeps = { λ x text header beats. (skew : ℕ) × (text ≡ migrated skew) };
+    ghost Keeps = { λ x text beats. (skew : ℕ) × (header : HeaderValue) × (text ≡ migrated skew header) };
 
     ghost IsReady = { λ x. ⊤ };
 

@@ -3,7 +3,7 @@ use Rattle.std.proofs.lemmas.Result.{err_from_is_err_and}
 use Rattle.mac_columns.specs.Columns.{columns_of_set}
 use Rattle.pcs_top.specs.Texts.{column_text}
 use Rattle.pcs_drive.proofs.WritingLemmas.{front-more}
-use Rattle.pcs_top.proofs.Columns.{putting-start, putting-column, putting-end, putting-failed}
+use Rattle.pcs_top.proofs.PuttingBlocks.{putting-start, putting-column, putting-end, putting-failed}
 use Rattle.pcs_top.proofs.blocks.put_set.Goals as goal
 
 pub returns-in_err-make_room-clause-err : goal.returns-in_err-make_room-clause-err

@@ -4,7 +4,6 @@ use Rattle.pcs_drive.specs.CaptureCommand.{FromBeats}
 use Rattle.pcs_drive.specs.declared.outcome.Outcome.TheVariants.{NoMemory}
 use Rattle.pcs_drive.proofs.Opened.{no-memory-opened, capture-answered}
 use Rattle.pcs_top.specs.Decoding.{decoded, good_text}
-use Rattle.pcs_top.proofs.ByHeader.{from-header}
 use Rattle.pcs_top.proofs.decode.decode.Goals as goal
 
 pub returns-in-Ok-open : goal.returns-in-Ok-open
@@ -21,8 +20,7 @@ returns-in-Ok-open g c =
       behind.0,
       behind.1,
       capture-answered (decoded limit) around c.in-Ok.beats header _ _ behind.0 o c.open_capture.ensures.later
-          (from-header good_text limit o.history.octets o.history.limit header later behind.0
-          (subst (λ skew. FromBeats (good_text header.period skew) o.history.octets o.history.limit header later behind.0) c.min-skew.ensures behind.2)),
+          (subst (λ skew. FromBeats (good_text header.period skew) o.history.octets o.history.limit header later behind.0) c.min-skew.ensures behind.2),
     )
 
 pub returns-in-Ok : goal.returns-in-Ok

@@ -21,11 +21,11 @@ returns g c =
     let fresh = subst (λ x. HasBegun x period skew false) (sym c.new-listening.ensures.receiver) begun in (
       c.drive.result,
       c.from.ensures,
-      c.drive.ensures h header (good_text period skew) start has (record {
+      c.drive.ensures.captures h header (good_text period skew) start has (record {
         keeps = subst (λ aligned. IsListening TellsFrames listening.receiver.now listening.teller aligned (good_text period skew) []) (sym c.new-listening.ensures.aligned)
-            (good-start listening.teller listening.receiver.now period skew header start fresh);
-        grows = good-grows period skew header;
-        wrote = good-none period skew header listening.receiver.now start _ fresh c.new-output.ensures;
+            (good-start listening.teller listening.receiver.now period skew start fresh);
+        grows = good-grows period skew;
+        wrote = good-none period skew listening.receiver.now start _ fresh c.new-output.ensures;
       }),
     ) in record {
       answers = answers;

@@ -15,8 +15,8 @@ returns-in-Ok g c =
     let around = seen g.R.Source.left g.R.Source.ended g.R.Source.faults g.W.Sink.held g.W.Sink.faults
     c.args.source.now c.drive.new.source c.args.sink.now c.drive.new.sink in
     capture-answered (migrated skew) around c.in-Ok.beats header _ _ c.drive.result o c.open_capture.ensures.later
-    (c.drive.ensures o.history header (migrated skew) start o.has (record {
-      keeps = (skew, refl);
+    (c.drive.ensures.captures o.history header (migrated skew header) start o.has (record {
+      keeps = (skew, header, refl);
       grows = migrated-grows skew header;
       wrote = wrote-pending start _ _ (no-beats skew header ∙ sym (c.holding-output.ensures ∙ c.header_of.ensures));
     }))

@@ -5,7 +5,6 @@ use Rattle.pcs_drive.specs.CaptureCommand.{FromBeats}
 use Rattle.pcs_drive.proofs.Opened.{no-memory-opened, capture-answered}
 use Rattle.pcs_top.specs.EventTexts.{HasBegun}
 use Rattle.pcs_top.specs.Reporting.{reported, report_text, seen_all}
-use Rattle.pcs_top.proofs.ByHeader.{from-header}
 use Rattle.pcs_top.proofs.ReportText.{report-start, reports-grow, report-none}
 use Rattle.pcs_top.proofs.report.report.Goals as goal
 
@@ -24,15 +23,14 @@ returns-in-Ok-open g c =
     c.open_capture.new.source c.drive.new.source c.args.sink.now c.drive.new.sink in
     let fresh = subst (λ x. HasBegun x header.period skew false) (sym c.new-listening.ensures.receiver)
     (record { stands = c.in-Ok-open.ensures.stands; drained = c.in-Ok-open.ensures.drained; none = c.in-Ok-open.ensures.beats }) in
-    let behind = c.drive.ensures o.history header (report_text first header.period skew) start o.has (record {
+    let behind = c.drive.ensures.captures o.history header (report_text first header.period skew) start o.has (record {
       keeps = report-start listening.teller (λ t. seen_all t.watchers.items (λ w. let m = goal.Watcher-dyn g (w.vtable, w.value) in watched m.label m.tally m.after m.leaves w.value))
           first listening.receiver.now header.period skew listening.aligned (rw c.new-listening.ensures.teller refl) fresh c.new-listening.ensures.aligned;
-      grows = reports-grow first header.period skew header;
-      wrote = report-none first header.period skew header listening.receiver.now start _ fresh c.new-output.ensures;
+      grows = reports-grow first header.period skew;
+      wrote = report-none first header.period skew listening.receiver.now start _ fresh c.new-output.ensures;
     }) in
     capture-answered (reported first limit) around c.in-Ok.beats header _ _ c.drive.result o c.open_capture.ensures.later
-    (from-header (report_text first) limit o.history.octets o.history.limit header later c.drive.result
-    (subst (λ skew. FromBeats (report_text first header.period skew) o.history.octets o.history.limit header later c.drive.result) c.min-skew.ensures behind))
+    (subst (λ skew. FromBeats (report_text first header.period skew) o.history.octets o.history.limit header later c.drive.result) c.min-skew.ensures behind)
 
 pub returns-in-Err-open : goal.returns-in-Err-open
 returns-in-Err-open g c =

@@ -2,4 +2,4 @@ use Rattle.pcs_top.proofs.Migrating.{copied}
 use Rattle.pcs_top.proofs.migrate.CopyingTask.finish.Goals as goal
 
 pub returns-clause-ok : goal.returns-clause-ok
-returns-clause-ok g c = λ text header beats start p. copied _ _ _ text header beats start p
+returns-clause-ok g c = λ text beats start p. copied _ _ _ text beats start p

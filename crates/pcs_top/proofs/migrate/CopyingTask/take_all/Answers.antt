@@ -4,8 +4,8 @@ use Rattle.pcs_top.proofs.migrate.CopyingTask.take_all.Goals as goal
 
 pub returns-clause-ok : goal.returns-clause-ok
 returns-clause-ok g c =
-    on_ok_weaker c.put.result (λ puts text header beats more start are p. copies _ _ c.args.octets.now _ _ _ _ puts text header beats more start are.joined p) c.put.ensures.ok
+    on_ok_weaker c.put.result (λ puts text beats more start are p. copies _ _ c.args.octets.now _ _ _ _ puts text beats more start are.joined p) c.put.ensures.ok
 
 pub returns-clause-err : goal.returns-clause-err
 returns-clause-err g c =
-    on_err_weaker c.put.result (λ breaks text header beats more start are p. breaks-copying _ c.args.octets.now _ _ _ breaks text header beats more start are.joined p) c.put.ensures.err
+    on_err_weaker c.put.result (λ breaks text beats more start are p. breaks-copying _ c.args.octets.now _ _ _ breaks text beats more start are.joined p) c.put.ensures.err

@@ -12,11 +12,11 @@ use Rattle.pcs_top.specs.Texts.{block_line, column_text}
 use Rattle.pcs_drive.specs.Writing.{Wrote, Puts, Stays, BreaksOff, BreaksOffBefore}
 use Rattle.pcs_drive.proofs.WritingLemmas.{front-more}
 
-column_text-append : (xs ys : List Column) → column_text (xs ++ ys) ≡ column_text xs ++ column_text ys
+pub column_text-append : (xs ys : List Column) → column_text (xs ++ ys) ≡ column_text xs ++ column_text ys
 unfolding column_text
 column_text-append xs ys = flat_map-append (λ c. block_line (block_of c)) xs ys
 
-column_text-one : (column : Column) → column_text (column ∷ []) ≡ block_line (block_of column)
+pub column_text-one : (column : Column) → column_text (column ∷ []) ≡ block_line (block_of column)
 unfolding column_text
 column_text-one column = append-nil (block_line (block_of column))
 

@@ -1,0 +1,4 @@
+pub mod KrLemmas
+pub mod Muxed
+pub mod Demuxed
+pub mod Carried

@@ -1,0 +1,4 @@
+pub mod Kr
+pub mod Multiplexing
+pub mod Demultiplexing
+pub mod Laws

@@ -1,0 +1,82 @@
+// Symbol lines are coded and corrected.
+ghost use Rattle.std.specs.Prelude.{◌≡◌, ◌^◌, ◌++◌, ◌∷◌, [], OnOk, OnErr};
+ghost use Rattle.pcs_io.specs.Faults.{HasCause};
+ghost use Rattle.pcs_io.specs.Histories.{Stands, opened};
+ghost use Rattle.pcs_io.specs.SymbolAnswers.{AreSymbols};
+ghost use Rattle.pcs_io.specs.SymbolLines.{symbol_line_at};
+ghost use Rattle.pcs_drive.specs.Seen.{seen};
+ghost use Rattle.pcs_drive.specs.LineCommand.{Converted, Converts, OrNoMemory};
+ghost use Rattle.pcs_drive.specs.Writing.{Puts, BreaksOffBefore};
+ghost use Rattle.pcs_late.specs.Kr.{answer_text, kr_text};
+
+use crate::kr_text::text_of;
+use pcs_drive::{LIMIT, Outcome, Output};
+use pcs_io::{Failed, Sink, Source, SymbolLines};
+use std::alloc::Global;
+
+/// Reads symbol lines, and writes the codeword of each message and the codeword near each word.
+pub fn kr<R: Source, W: Sink>(alloc: Global, source: &mut R, sink: &mut W) -> Outcome
+    ensures { OrNoMemory (Converted symbol_line_at kr_text)
+        (seen R.left R.ended R.faults W.held W.faults source.old source.new sink.old sink.new) result }
+{
+    match SymbolLines::open(alloc, LIMIT) {
+        Ok(mut lines) => kr_opened(&mut lines, source, sink),
+        Err(_) => Outcome::NoMemory,
+    }
+}
+
+/// The same with a reader that was opened and had no other call. It takes no memory.
+pub fn kr_opened<R: Source, W: Sink>(
+    lines: &mut SymbolLines,
+    source: &mut R,
+    sink: &mut W,
+) -> Outcome
+    requires { Stands symbol_line_at lines.old (opened (2 ^ 40)) }
+    ensures { Converted symbol_line_at kr_text
+        (seen R.left R.ended R.faults W.held W.faults source.old source.new sink.old sink.new) result }
+{
+    let mut output = Output::new();
+    match convert(lines, &mut output, source, sink) {
+        Ok(outcome) => outcome,
+        Err(Failed) => Outcome::WriteFault,
+    }
+}
+
+// Reads lines and gathers their text, which is written before the source is read again and at the
+// end. `Failed` comes where a write failed.
+fn convert<R: Source, W: Sink>(
+    lines: &mut SymbolLines,
+    output: &mut Output,
+    source: &mut R,
+    sink: &mut W,
+) -> Result<Outcome, Failed>
+    requires opened { Stands symbol_line_at lines.old (opened (2 ^ 40)) }
+    requires empty { output.old ≡ [] }
+    ensures { Converts symbol_line_at kr_text
+        (seen R.left R.ended R.faults W.held W.faults source.old source.new sink.old sink.new) result }
+{
+    loop {
+        output.release(sink, lines.holds_line())?;
+        match lines.next(source) {
+            Ok(Some(line)) => put_line(output, sink, line.symbols)?,
+            Ok(None) => {
+                output.flush(sink)?;
+                return Ok(Outcome::Done);
+            }
+            Err(fault) => {
+                output.flush(sink)?;
+                return Ok(Outcome::from(fault));
+            }
+        }
+    }
+}
+
+// Puts the answer to a line.
+fn put_line<W: Sink>(output: &mut Output, sink: &mut W, symbols: &[u16]) -> Result<(), Failed>
+    requires { AreSymbols symbols.now }
+    ensures ok { OnOk result (Puts (W.held sink.old) output.old (answer_text symbols.now ++ 10 ∷ []) (W.held sink.new) output.new) }
+    ensures err { OnErr result (BreaksOffBefore (W.held sink.old) output.old (W.held sink.new)) }
+    ensures cause { HasCause (W.faults sink.old) (W.faults sink.new) result }
+{
+    output.put(sink, text_of(symbols).as_slice())
+}

@@ -1,0 +1,9 @@
+//! Laws of what the commands write, over their definitions alone. The functions do nothing.
+
+ghost use Rattle.pcs_late.specs.Laws.{CapturesAreCarried};
+
+/// The levels of a capture are a file of levels with its period and skew, and at phase 0 they become a
+/// capture with this period and skew and the same beats.
+pub fn captures_are_carried()
+    ensures { CapturesAreCarried }
+{}
