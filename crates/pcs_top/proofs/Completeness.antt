@@ -18,6 +18,7 @@ use Rattle.pcs_io.proofs.LineLaws.{begins-more, lines-behind}
 use Rattle.pcs_words.specs.declared.command.Command.{Command}
 use Rattle.pcs_words.specs.declared.command.Command.TheVariants as command
 use Rattle.pcs_words.specs.declared.command.EncodeOptions.{EncodeOptions}
+use Rattle.pcs_words.specs.declared.command.TrialOptions.{TrialOptions}
 use Rattle.pcs_words.specs.declared.refusal.Refusal.{Refusal}
 use Rattle.pcs_words.specs.declared.refusal.Refusal.TheVariants as refusal
 use Rattle.pcs_drive.specs.Seen.{Seen, ReadFailed, WriteFailed}
@@ -39,6 +40,7 @@ use Rattle.pcs_top.specs.Reporting.{reported}
 use Rattle.pcs_top.specs.ColumnTexts.{columned}
 use Rattle.pcs_top.specs.Migrating.{migrated}
 use Rattle.pcs_top.specs.Impairing.{impairing}
+use Rattle.pcs_top.specs.Trying.{Tried}
 use Rattle.pcs_top.specs.Statuses.{ByOutcome, status_of}
 use Rattle.pcs_top.specs.Top.{Answers, Performs, Runs, IsWholeCapture, IsWholeLevels, InGrammar, NothingFailed, IsComplete}
 use Rattle.pcs_top.specs.declared.status.Status.{Status}
@@ -122,6 +124,19 @@ by-levels phase seen octets rest status b a within short reads writes c =
     by-outcome status c.0 c.1
     (captured levels_header_at levels-stay (demultiplexed phase) seen octets rest within.0 within.1 b a within.2 refl c.0 short reads writes c.2)
 
+-- a trial reads nothing
+tried : (options : TrialOptions) (seen : Seen) (outcome : Outcome) → ¬ WriteFailed seen → Tried options seen outcome → (outcome ≡ Done) ⊎ (outcome ≡ NoMemory)
+tried options seen Done writes c = inl refl
+tried options seen ReadFault writes c = absurd c
+tried options seen WriteFault writes c = absurd (writes c.1)
+tried options seen NoMemory writes c = inr refl
+tried options seen (BadLine number kind) writes c = absurd c
+tried options seen (BadHeader bad) writes c = absurd c
+tried options seen (TooTight frame) writes c = absurd c
+tried options seen (Cut over) writes c = absurd c
+tried options seen NotAligned writes c = absurd c
+tried options seen TooLong writes c = absurd c
+
 answers : (watchers : List Watched) (words : Result Command Refusal) (seen : Seen) (heard : Heard) (status : Status) (octets rest : List ℕ) → seen.left_before ≡ Some octets
     → seen.left_after ≡ Some rest
     → InGrammar watchers words octets → length octets < 2 ^ 40 → NothingFailed seen heard → Answers watchers words seen status
@@ -144,7 +159,8 @@ answers watchers (Ok (command.Columns options)) seen heard status octets rest b 
     by-capture (columned options.skew) seen octets rest status b a within short nothing.reads nothing.writes c
 answers watchers (Ok (command.Impair items)) seen heard status octets rest b a within short nothing c =
     by-capture (impairing items) seen octets rest status b a within short nothing.reads nothing.writes c
-answers watchers (Ok (command.Trial options)) seen heard status octets rest b a within short nothing c = absurd within
+answers watchers (Ok (command.Trial options)) seen heard status octets rest b a within short nothing c =
+    by-outcome status c.0 c.1 (tried options seen c.0 nothing.writes c.2)
 answers watchers (Ok (command.Mux options)) seen heard status octets rest b a within short nothing c =
     by-capture (multiplexed options.precode) seen octets rest status b a within short nothing.reads nothing.writes c
 answers watchers (Ok (command.Demux options)) seen heard status octets rest b a within short nothing c =

@@ -24,3 +24,9 @@ pub mod TallyLines
 pub mod ReportText
 pub mod ColumnText
 pub mod ColumnPairs
+pub mod CountedEvents
+pub mod Passing
+pub mod Bursts
+pub mod TrialEnds
+pub mod TriedColumns
+pub mod TriedFrames

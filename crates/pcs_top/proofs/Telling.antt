@@ -21,7 +21,7 @@ use Rattle.pcs_drive.specs.Writing.{Wrote}
 use Rattle.pcs_drive.proofs.WritingLemmas.{front-more}
 use Rattle.pcs_top.specs.EventTexts.{is_alignment, has_alignment, EventText, capture, listening, Meaning, Grows, HasTold, TellsEvent, BreaksAtEvent, hearing, IsListening, HasBegun}
 
-one-more : (es : List Event) (n : ℕ) (e : Event) → slice_get es n ≡ Some e → take (n + 1) es ≡ take n es ++ e ∷ []
+pub one-more : (es : List Event) (n : ℕ) (e : Event) → slice_get es n ≡ Some e → take (n + 1) es ≡ take n es ++ e ∷ []
 one-more es n e at = ap (λ k. take k es) (add-one n) ∙ next es n e at
   where
     next : (es : List Event) (n : ℕ) (e : Event) → slice_get es n ≡ Some e → take (suc n) es ≡ take n es ++ e ∷ []
@@ -30,7 +30,7 @@ one-more es n e at = ap (λ k. take k es) (add-one n) ∙ next es n e at
     next (x ∷ es) zero e at = cc
     next (x ∷ es) (suc n) e at = ap (λ ts. x ∷ ts) (next es n e at)
 
-all-given : (es : List Event) (n : ℕ) → slice_get es n ≡ None → length es ≤ n
+pub all-given : (es : List Event) (n : ℕ) → slice_get es n ≡ None → length es ≤ n
 all-given [] n at = omega arith
 all-given (x ∷ es) zero at = absurd (cc)
 all-given (x ∷ es) (suc n) at = omega (arith, all-given es n at)

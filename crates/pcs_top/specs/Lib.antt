@@ -14,5 +14,8 @@ pub mod Headlines
 pub mod Migrating
 pub mod Impairing
 pub mod Giving
+pub mod Trying
+pub mod Channels
+pub mod Trials
 pub mod Reporting
 pub mod ColumnTexts

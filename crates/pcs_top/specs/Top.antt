@@ -1,5 +1,5 @@
 -- The answers of the top call.
-use Rattle.std.specs.Prelude.{◌≡◌, ◌⊎◌, ℕ, ◌^◌, ◌<◌, true, List, length, Some, Result, Ok, Err}
+use Rattle.std.specs.Prelude.{◌≡◌, ◌⊎◌, ⊤, ℕ, ◌^◌, ◌<◌, true, List, length, Some, Result, Ok, Err}
 use Rattle.pcs_watch.specs.Watching.{Seen as Watched}
 use Rattle.rate_match.specs.Kept.{HasLegalGaps}
 use Rattle.pcs_io.specs.Faults.{Rose}
@@ -31,6 +31,7 @@ use Rattle.pcs_top.specs.Reporting.{reported}
 use Rattle.pcs_top.specs.ColumnTexts.{columned}
 use Rattle.pcs_top.specs.Migrating.{migrated}
 use Rattle.pcs_top.specs.Impairing.{impairing}
+use Rattle.pcs_top.specs.Trying.{Tried}
 use Rattle.pcs_top.specs.Statuses.{ByOutcome}
 use Rattle.pcs_top.specs.declared.status.Status.{Status}
 use Rattle.pcs_top.specs.declared.status.Status.TheVariants.{Done, Usage, NoMemory}
@@ -47,6 +48,7 @@ Answers watchers (Ok (command.Decode options)) seen status = ByOutcome (FromCapt
 Answers watchers (Ok (command.Report options)) seen status = ByOutcome (FromCapture (reported watchers options.skew) seen) status
 Answers watchers (Ok (command.Columns options)) seen status = ByOutcome (FromCapture (columned options.skew) seen) status
 Answers watchers (Ok (command.Impair items)) seen status = ByOutcome (FromCapture (impairing items) seen) status
+Answers watchers (Ok (command.Trial options)) seen status = ByOutcome (Tried options seen) status
 Answers watchers (Ok (command.Migrate options)) seen status = ByOutcome (FromCapture (migrated options.skew) seen) status
 Answers watchers (Ok (command.Mux options)) seen status = ByOutcome (FromCapture (multiplexed options.precode) seen) status
 Answers watchers (Ok (command.Demux options)) seen status = ByOutcome (FromLevels (demultiplexed options.phase) seen) status
@@ -69,7 +71,7 @@ IsWholeCapture text octets =
 abbrev pub IsWholeLevels : List ℕ → Type 0
 IsWholeLevels octets = (header : LevelsHeader) × (beats : List (List ℕ)) × OpensWholeBy levels_header_at octets header beats 0
 
--- The input is in the grammar of the command, and for `encode` its columns have legal gaps.
+-- The input is in the grammar of the command, and for `encode` its columns have legal gaps. `trial` asks nothing of it.
 abbrev pub InGrammar : List Watched → Result Command Refusal → List ℕ → Type 0
 InGrammar watchers (Ok command.Blocks) octets = (lines : List FrameLine) × AreLines frame_line_at octets lines
 InGrammar watchers (Ok command.Unblock) octets = (lines : List BlockLine) × AreLines block_line_at octets lines
@@ -80,6 +82,7 @@ InGrammar watchers (Ok (command.Decode options)) octets = IsWholeCapture (decode
 InGrammar watchers (Ok (command.Report options)) octets = IsWholeCapture (reported watchers options.skew) octets
 InGrammar watchers (Ok (command.Columns options)) octets = IsWholeCapture (columned options.skew) octets
 InGrammar watchers (Ok (command.Impair items)) octets = IsWholeCapture (impairing items) octets
+InGrammar watchers (Ok (command.Trial options)) octets = ⊤
 InGrammar watchers (Ok (command.Migrate options)) octets = IsWholeCapture (migrated options.skew) octets
 InGrammar watchers (Ok (command.Mux options)) octets = IsWholeCapture (multiplexed options.precode) octets
 InGrammar watchers (Ok (command.Demux options)) octets = IsWholeLevels octets

@@ -36,8 +36,8 @@ pub fn put_pair<W: Sink>(
     output.put(sink, as_octets(&pair))
 }
 
-// Fills the pair in hand with idles.
-fn fill(sender: &mut Sender)
+/// Fills the pair in hand with idles.
+pub fn fill(sender: &mut Sender)
     ensures { (h : Sending) → Stands sender.old h
         → Stands sender.new (record h { placed = h.placed ++ idles (end_column h - length h.placed) }) }
 {

@@ -2,6 +2,7 @@
 #![tactic(auto)]
 
 mod blocks;
+mod channel;
 mod columns;
 mod decode;
 mod encode;
@@ -17,6 +18,7 @@ mod status;
 mod tallies;
 mod teller;
 mod top;
+mod trial;
 mod unblock;
 
 pub use blocks::blocks_opened;
