@@ -15,6 +15,7 @@ pub mod FirstBadOctet
 pub mod QuickLines
 pub mod TextRuns
 pub mod BlockRuns
+pub mod BlockLaws
 pub mod SymbolRuns
 pub mod SymbolNumbers
 pub mod SymbolLaws

@@ -10,12 +10,8 @@ use Rattle.pcs_io.specs.Grammars.{LineAt, Line, Refused, Open}
 use Rattle.pcs_io.specs.SymbolForm.{Spell, IsSymbolLine, ReadsSymbols, RefusesSymbolsAtTheFirst}
 use Rattle.pcs_io.specs.SymbolGrammar.{symbol_grammar}
 use Rattle.pcs_io.specs.SymbolLines.{symbol_line_at, symbols_at, numbers_of, is_width, is_too_great, MayStand, AreSymbolDigits}
-use Rattle.pcs_io.proofs.LineLaws.{refused-more, refused-no-line}
+use Rattle.pcs_io.proofs.LineLaws.{chosen, refused-more, refused-no-line}
 use Rattle.pcs_io.proofs.SymbolRuns.{symbols-run, wide}
-
-chosen : (b : Bool) (p q z : LineAt (List ℕ)) → cond b p q ≡ z → ((b ≡ true) × (p ≡ z)) ⊎ ((b ≡ false) × (q ≡ z))
-chosen true p q z e = inl (refl, e)
-chosen false p q z e = inr (refl, e)
 
 may : (n x : ℕ) → is_digit x 16 ≡ true → is_too_great n x ≡ false → MayStand n x
 may n x digit low = record { value = grind (arith, nat_tests); first = λ first. grind (arith, nat_tests) }

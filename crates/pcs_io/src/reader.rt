@@ -34,7 +34,7 @@ impl<P: Parser + Drop> Model for Reader<P> {
 
     ghost Value = { ReaderState P };
 
-    ghost view = { λ s. record { buffer = s.input; parser = s.parser; lines = s.lines; standing = s.standing } };
+    ghost view = { λ s. record { buffer = s.input; parser = s.parser; lines = s.lines; standing = s.standing; room = P.room s.parser } };
 
     ghost invariant = { λ s. (s.lines + length s.input.unused ≤ s.input.taken) × (s.input.taken ≤ s.input.limit) × (s.input.limit < 2 ^ 64) };
 }
@@ -120,19 +120,22 @@ impl<P: Parser + Drop> Reader<P> {
         self.lines
     }
 
-    /// Reads the next line, and answers whether there is one.
+    /// Reads the next line, and answers whether there is one. It takes no memory.
     pub fn next<S: Source>(&mut self, source: &mut S) -> Result<bool, InFault>
         ensures nexts { Nexts P.line_at self.old self.new (S.left source.old) (S.left source.new) (S.ended source.new) (answer_of result (P.line self.new.parser)) }
         ensures going { result ≡ Ok true → self.new.standing ≡ Standing.Going }
         ensures later { S.faults source.old ≤ S.faults source.new }
         ensures read { IsErrOf result InFault.Read → (Rose (S.faults source.old) (S.faults source.new)) ⊎ (self.old.standing ≡ Standing.Failed InFault.Read) }
     {
-        self.advance(source)
+        let found = self.advance(source);
+        self.stays_within();
+        found
     }
 
     // The same, by its state alone.
     fn advance<S: Source>(&mut self, source: &mut S) -> Result<bool, InFault>
         ensures calls { Calls P.line_at self.old.standing self.old self.new (S.left source.old) (S.left source.new) (S.ended source.new) (P.line self.new.parser) result }
+        ensures room { self.new.room ≡ self.old.room }
         ensures later { S.faults source.old ≤ S.faults source.new }
         ensures read { IsErrOf result InFault.Read → (Rose (S.faults source.old) (S.faults source.new)) ⊎ (self.old.standing ≡ Standing.Failed InFault.Read) }
     {
@@ -170,6 +173,7 @@ fn next_line<P: Parser, S: Source>(
     requires lines { lines + length input.old.unused ≤ input.old.taken }
     ensures answers { FindsLine P.line_at lines input.old input.new (S.left source.old) (S.left source.new) (S.ended source.new) (P.line parser.new) result }
     ensures taken { input.new.taken ≤ input.new.limit }
+    ensures room { P.room parser.new ≡ P.room parser.old }
     ensures later { S.faults source.old ≤ S.faults source.new }
     ensures read { IsErrOf result InFault.Read → Rose (S.faults source.old) (S.faults source.new) }
 {
@@ -216,11 +220,13 @@ fn read_line<P: Parser, S: Source>(
     parser: &mut P,
     source: &mut S,
 ) -> Result<Found, Failed>
-    requires { input.old.taken ≤ input.old.limit }
+    requires taken { input.old.taken ≤ input.old.limit }
+    requires few { length input.old.unused ≤ 65536 }
     ensures finds { MatchResult result
         (Finds P.line_at input.old input.new (S.left source.old) (S.left source.new) (S.ended source.new) (P.line parser.new))
         (λ _. FailsOpen P.line_at input.old input.new (S.left source.old) (S.left source.new)) }
     ensures taken { input.new.taken ≤ input.new.limit }
+    ensures room { P.room parser.new ≡ P.room parser.old }
     ensures cause { HasCause (S.faults source.old) (S.faults source.new) result }
 {
     parser.restart();
@@ -243,7 +249,8 @@ fn read_line<P: Parser, S: Source>(
 #[inline]
 fn take_ready<P: Parser>(input: &mut InputBuffer, parser: &mut P) -> Step
     requires { 0 < length input.old.unused }
-    ensures { Stepped input.old input.new (P.ahead parser.old) (P.ahead parser.new) (P.line parser.new) result }
+    ensures stepped { Stepped input.old input.new (P.ahead parser.old) (P.ahead parser.new) (P.line parser.new) result }
+    ensures room { P.room parser.new ≡ P.room parser.old }
 {
     let taken = parser.take(input.unused());
     input.advance(taken.used);

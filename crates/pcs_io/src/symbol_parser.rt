@@ -30,13 +30,13 @@ pub struct SymbolParser {
 }
 
 impl Model for SymbolParser {
-    ghost use Rattle.std.specs.Prelude.{◌≡◌, ◌≤◌, true, take, vec_len, vec_capacity};
+    ghost use Rattle.std.specs.Prelude.{◌≡◌, ◌≤◌, true, [], ◌∷◌, take, vec_len, vec_capacity};
     ghost use Rattle.pcs_io.specs.SymbolAnswers.{is_count};
     ghost use Rattle.pcs_io.specs.SymbolLines.{SymbolParserState, AreSymbolDigits, AreSmall};
 
     ghost Value = { SymbolParserState };
 
-    ghost view = { λ s. record { digits = s.digits.items; numbers = take s.count s.symbols.items } };
+    ghost view = { λ s. record { digits = s.digits.items; numbers = take s.count s.symbols.items; room = vec_capacity s.digits ∷ vec_capacity s.symbols ∷ [] } };
 
     ghost invariant = { λ s. (1584 ≤ vec_capacity s.digits) × (vec_len s.digits ≤ 1584) × AreSymbolDigits s.digits.items
         × (vec_len s.symbols ≡ 528) × AreSmall s.symbols.items × (is_count s.count ≡ true) };
@@ -78,6 +78,8 @@ impl Parser for SymbolParser {
 
     ghost line = { λ p. p.numbers };
 
+    ghost room = { λ p. p.room };
+
     fn restart(&mut self) {
         self.digits.clear();
     }
@@ -109,7 +111,7 @@ fn symbol_step(digits: &mut Vec<u8>, octet: u8) -> Step
     ensures step { (rest : List ℕ) → symbols_at digits.old.items (octet ∷ rest)
         ≡ comes_after (symbols_at digits.new.items) (numbers_of digits.new.items) result rest }
     ensures whole { result ≡ Step.Whole → IsTrue (is_width (vec_len digits.new)) }
-    ensures room { 1584 ≤ vec_capacity digits.new }
+    ensures room { vec_capacity digits.new ≡ vec_capacity digits.old }
     ensures within { vec_len digits.new ≤ 1584 }
     ensures right { AreSymbolDigits digits.new.items }
 {
@@ -129,7 +131,7 @@ fn symbol_step(digits: &mut Vec<u8>, octet: u8) -> Step
     if digits.len() % EACH == 0 && value_of(octet) > 3 {
         return Step::Refuse(Kind::Symbol);
     }
-    digits.push(octet).unwrap();
+    digits.push_reserved(octet);
     Step::More
 }
 
