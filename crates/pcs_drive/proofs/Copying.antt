@@ -1,15 +1,16 @@
 -- Lines that are turned into text one by one, in any grammar and by any text.
-use Rattle.std.proofs.Common.{◌≡◌, ℕ, ◌^◌, ◌<◌, ◌≤◌, ◌⊎◌, inl, inr, Bool, List, [], ◌∷◌, ◌++◌, length, Option, Some, None, IfSome, Result, Ok, Err, subst, refl, arith}
+use Rattle.std.proofs.Common.{◌≡◌, ℕ, ◌^◌, ◌<◌, ◌≤◌, ◌⊎◌, inl, inr, Bool, List, [], ◌∷◌, ◌++◌, length, Option, Some, None, IfSome, Result, Ok, Err, subst, refl, sym, append-nil, arith}
 use Rattle.std.specs.Io.KnownBytes.{Appends, Consumes}
 use Rattle.pcs_io.specs.Faults.{Rose}
 use Rattle.pcs_io.specs.Octets.{TakesWhereTold, AppendsFront}
-use Rattle.pcs_io.specs.Grammars.{LineAt, Begins, AreRefused, AreCut}
+use Rattle.pcs_io.specs.Grammars.{LineAt, Open, Begins, AreRefused, AreCut, IsNear}
 use Rattle.pcs_io.specs.Histories.{ReaderState, History, Stands, Nexts, Answers, Ends, told, opened}
 use Rattle.pcs_io.specs.declared.fault.Kind.{Kind}
 use Rattle.pcs_io.specs.declared.fault.Kind.TheVariants.{NoEnd}
 use Rattle.pcs_io.specs.declared.fault.InFault.{InFault}
 use Rattle.pcs_io.specs.declared.fault.InFault.TheVariants as in_fault
 use Rattle.pcs_io.specs.declared.reader.Standing.TheVariants.{Going, Failed}
+use Rattle.pcs_io.proofs.Progress.{fresh-near}
 use Rattle.pcs_io.proofs.Told.{consumes-append, consumes-none, takes-after, takes-consumed}
 use Rattle.pcs_drive.specs.Outcomes.{outcome_of}
 use Rattle.pcs_drive.specs.Seen.{Seen, TookAll, Written, ReadFailed, WriteFailed}
@@ -53,23 +54,26 @@ module _ {X : Type 0} (line_at : List ℕ → LineAt X) where
   refused seen mid octets got lines kind took (inl a) = inl (took-more seen mid octets got took a.0, a.1)
   refused seen mid octets got lines kind took (inr a) = inr (a.0, took-all seen mid octets got took a.1, a.2, a.3)
 
+  open-near : (rest : List ℕ) → line_at rest ≡ Open → IsNear line_at rest
+  open-near rest is = (rest, [], sym (append-nil rest), λ _. is, omega arith)
+
   -- what a fault leaves behind the lines
   abbrev pub Behind : History X → List ℕ → Option (List ℕ) → Option (List ℕ) → Type 0
-  Behind h got before now = (rest : List ℕ) × TakesWhereTold before now got × Begins line_at (h.octets ++ got) h.lines rest
+  Behind h got before now = (rest : List ℕ) × TakesWhereTold before now got × Begins line_at (h.octets ++ got) h.lines rest × IsNear line_at rest
 
   pub behind-fault : (h : History X) (got : List ℕ) (before now : Option (List ℕ)) (ended : Bool) (fault : InFault)
       → Answers line_at h got before now ended (Err fault) → Behind h got before now
-  behind-fault h got before now ended in_fault.Read a = (a.1.0, a.0, a.1.1)
-  behind-fault h got before now ended (in_fault.BadLine number kind) (same, inl a) = (a.1.0, takes-consumed before now got a.0, a.1.1)
-  behind-fault h got before now ended (in_fault.BadLine number kind) (same, inr a) = (a.3.0, a.1.source, a.3.1)
-  behind-fault h got before now ended in_fault.TooLong a = (a.2.0, takes-consumed before now got a.0, a.2.1)
+  behind-fault h got before now ended in_fault.Read a = (a.1.0, a.0, a.1.1, open-near a.1.0 a.1.2)
+  behind-fault h got before now ended (in_fault.BadLine number kind) (same, inl a) = (a.1.0, takes-consumed before now got a.0, a.1.1, a.1.3)
+  behind-fault h got before now ended (in_fault.BadLine number kind) (same, inr a) = (a.3.0, a.1.source, a.3.1, open-near a.3.0 a.3.2)
+  behind-fault h got before now ended in_fault.TooLong a = (a.2.0, takes-consumed before now got a.0, a.2.1, open-near a.2.0 a.2.2)
 
 module _ {X : Type 0} (line_at : List ℕ → LineAt X) (text_of : List X → List ℕ) where
   -- a write failed: `rest` stands behind the lines whose text is written in part
   failed : (seen : Seen) (octets : List ℕ) (lines : List X) (rest : List ℕ) → WriteFailed seen
-      → TakesWhereTold seen.left_before seen.left_after octets → Begins line_at octets lines rest
+      → TakesWhereTold seen.left_before seen.left_after octets → Begins line_at octets lines rest → IsNear line_at rest
       → AppendsFront seen.held_before seen.held_after (text_of lines) → Converted line_at text_of seen WriteFault
-  failed seen octets lines rest rose took begins front = (octets, lines, rest, rose, took, begins, front)
+  failed seen octets lines rest rose took begins near front = (octets, lines, rest, rose, took, begins, near, front)
 
 module _ {X P : Type 0} (line_at : List ℕ → LineAt X) where
   -- the answer of a call, by its arm
@@ -94,6 +98,7 @@ module _ {X P : Type 0} (line_at : List ℕ → LineAt X) (text_of : List X → 
     pub octets : List ℕ
     pub answered : List X
     pub stands : Stands line_at lines (reading octets answered)
+    pub near : IsNear line_at lines.buffer.unused
     pub took : Consumes before now octets
     pub wrote : Wrote held_before held_now (text_of answered) pending
     pub keeps : Keeps answered
@@ -105,6 +110,7 @@ module _ {X P : Type 0} (line_at : List ℕ → LineAt X) (text_of : List X → 
     octets = [];
     answered = [];
     stands = stands;
+    near = subst (IsNear line_at) stands.unused (fresh-near line_at [] (omega arith));
     took = consumes-none before;
     wrote = wrote;
     keeps = keeps;
@@ -118,6 +124,7 @@ module _ {X P : Type 0} (line_at : List ℕ → LineAt X) (text_of : List X → 
     octets = c.octets;
     answered = c.answered;
     stands = c.stands;
+    near = c.near;
     took = c.took;
     wrote = kept held_before (text_of c.answered) c.wrote;
     keeps = c.keeps;
@@ -143,6 +150,7 @@ module _ {X P : Type 0} (line_at : List ℕ → LineAt X) (text_of : List X → 
         octets = c.octets ++ t.0;
         answered = c.answered ++ line ∷ [];
         stands = t.2;
+        near = n.near;
         took = consumes-append before mid now c.octets t.0 c.took t.1.0;
         wrote = put c.answered c.keeps held_before c.wrote;
         keeps = next c.answered c.keeps;
@@ -187,7 +195,7 @@ module _ {X P : Type 0} (line_at : List ℕ → LineAt X) (text_of : List X → 
       → BreaksOffBefore held_mid pending seen.held_after
       → Converted line_at text_of seen WriteFault
   copied-failed Keeps seen lines held_mid pending c rose front =
-      failed line_at text_of seen c.octets c.answered lines.buffer.unused rose (takes-consumed seen.left_before seen.left_after c.octets c.took) c.stands.unused
+      failed line_at text_of seen c.octets c.answered lines.buffer.unused rose (takes-consumed seen.left_before seen.left_after c.octets c.took) c.stands.unused c.near
       (front seen.held_before (text_of c.answered) c.wrote)
 
   -- within the text of a line
@@ -198,7 +206,7 @@ module _ {X P : Type 0} (line_at : List ℕ → LineAt X) (text_of : List X → 
       → Converted line_at text_of seen WriteFault
   line-failed Keeps seen old new mid held_mid pending line c n rose front =
       let t = tells Keeps old new seen.left_before mid seen.left_after seen.held_before held_mid pending seen.ended (Ok (Some line)) c n in
-      failed line_at text_of seen (c.octets ++ t.0) (c.answered ++ line ∷ []) t.1.1 rose (took-more seen mid c.octets t.0 c.took t.1.0) t.1.2
+      failed line_at text_of seen (c.octets ++ t.0) (c.answered ++ line ∷ []) new.buffer.unused rose (took-more seen mid c.octets t.0 c.took t.1.0) t.2.unused n.near
       (front c.answered c.keeps seen.held_before c.wrote)
 
   -- at the end
@@ -209,7 +217,7 @@ module _ {X P : Type 0} (line_at : List ℕ → LineAt X) (text_of : List X → 
       → Converted line_at text_of seen WriteFault
   end-failed Keeps seen old new mid held_mid pending c n rose front =
       let t = tells Keeps old new seen.left_before mid seen.left_after seen.held_before held_mid pending seen.ended (Ok None) c n in
-      failed line_at text_of seen (c.octets ++ t.0) c.answered [] rose (takes-after seen.left_before mid seen.left_after c.octets t.0 c.took t.1.0.source) t.1.2
+      failed line_at text_of seen (c.octets ++ t.0) c.answered [] rose (takes-after seen.left_before mid seen.left_after c.octets t.0 c.took t.1.0.source) t.1.2 (fresh-near line_at [] (omega arith))
       (front seen.held_before (text_of c.answered) c.wrote)
 
   pub fault-failed : (Keeps : List X → Type 0) (seen : Seen) (old new : ReaderState P) (mid held_mid : Option (List ℕ)) (pending : List ℕ)
@@ -221,7 +229,7 @@ module _ {X P : Type 0} (line_at : List ℕ → LineAt X) (text_of : List X → 
   fault-failed Keeps seen old new mid held_mid pending fault c n rose front =
       let t = tells Keeps old new seen.left_before mid seen.left_after seen.held_before held_mid pending seen.ended (Err fault) c n in
       let behind = behind-fault line_at (reading c.octets c.answered) t.0 mid seen.left_after seen.ended fault t.1 in
-      failed line_at text_of seen (c.octets ++ t.0) c.answered behind.0 rose (takes-after seen.left_before mid seen.left_after c.octets t.0 c.took behind.1) behind.2
+      failed line_at text_of seen (c.octets ++ t.0) c.answered behind.0 rose (takes-after seen.left_before mid seen.left_after c.octets t.0 c.took behind.1) behind.2 behind.3
       (front seen.held_before (text_of c.answered) c.wrote)
 
   -- a reader that goes on answers a read fault only where a read failed
