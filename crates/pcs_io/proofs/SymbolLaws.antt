@@ -1,12 +1,12 @@
 -- Which texts are symbol lines, and where the others are refused.
-use Rattle.std.proofs.Common.{◌≡◌, ℕ, zero, suc, ◌+◌, ◌-◌, ◌*◌, ◌<◌, ◌≤◌, ◌==◌, ◌⊎◌, Bool, true, false, List, [], ◌∷◌, ◌++◌}
-use Rattle.std.proofs.Common.{length, get_or, replicate, refl, sym, ap, subst, ◌∙◌, inl, inr, cond, append_assoc, length-append, arith}
+use Rattle.std.proofs.Common.{◌≡◌, ℕ, zero, suc, ◌+◌, ◌-◌, ◌*◌, ◌<◌, ◌≤◌, ◌==◌, ◌⊎◌, true, false, List, [], ◌∷◌, ◌++◌}
+use Rattle.std.proofs.Common.{length, get_or, replicate, refl, sym, ap, subst, ◌∙◌, inl, inr, append_assoc, length-append, arith}
 use Rattle.std.specs.Char.{digit_value, is_digit}
 use Rattle.std.proofs.lemmas.Bool.{cases_eq, cases_lt, cond-true, cond-false, eqb-true, eqb-false}
 use Rattle.std.proofs.lemmas.Bool.Decides.{nat_tests}
 use Rattle.std.proofs.lemmas.List.{get_or_append_left, get_or_at, get_or-replicate, length-replicate}
 use Rattle.pcs_io.specs.declared.fault.Kind.TheVariants.{BadHex, BadWidth, Symbol}
-use Rattle.pcs_io.specs.Grammars.{LineAt, Line, Refused, Open}
+use Rattle.pcs_io.specs.Grammars.{Line, Refused, Open}
 use Rattle.pcs_io.specs.SymbolForm.{Spell, IsSymbolLine, ReadsSymbols, RefusesSymbolsAtTheFirst}
 use Rattle.pcs_io.specs.SymbolGrammar.{symbol_grammar}
 use Rattle.pcs_io.specs.SymbolLines.{symbol_line_at, symbols_at, numbers_of, is_width, is_too_great, MayStand, AreSymbolDigits}
