@@ -54,14 +54,7 @@ digits-sound (x ∷ xs) front control line r e = elim (chosen (x == 10) _ _ _ e)
     | inr q ↦ elim (chosen (is_ascii_hexdigit x) _ _ _ q.1) [
       | inl s ↦ (
           let rest = digits-sound xs (front ++ x ∷ []) control line r s.1 in
-          record {
-            digits = rest.digits;
-            octets = rest.octets;
-            spelled = sym (append_assoc front (x ∷ []) xs) ∙ rest.spelled;
-            decoded = rest.decoded;
-            sixteen = rest.sixteen;
-            says = rest.says;
-          })
+          record { digits = rest.digits; octets = rest.octets; spelled = sym (append_assoc front (x ∷ []) xs) ∙ rest.spelled; decoded = rest.decoded; sixteen = rest.sixteen; says = rest.says })
       | inr s ↦ absurd (refused-no-line _ BadHex line r refl s.1)
     ]
   ]
