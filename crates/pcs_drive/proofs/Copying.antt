@@ -68,6 +68,10 @@ module _ {X : Type 0} (line_at : List ℕ → LineAt X) where
   behind-fault h got before now ended (in_fault.BadLine number kind) (same, inr a) = (a.3.0, a.1.source, a.3.1, open-near a.3.0 a.3.2)
   behind-fault h got before now ended in_fault.TooLong a = (a.2.0, takes-consumed before now got a.0, a.2.1, open-near a.2.0 a.2.2)
 
+-- a reader that was opened has taken nothing
+pub opened-near : {X P : Type 0} (line_at : List ℕ → LineAt X) (lines : ReaderState P) → Stands line_at lines (opened (2 ^ 40)) → IsNear line_at lines.buffer.unused
+opened-near line_at lines stands = subst (IsNear line_at) stands.unused (fresh-near line_at [] (omega arith))
+
 module _ {X : Type 0} (line_at : List ℕ → LineAt X) (text_of : List X → List ℕ) where
   -- a write failed: `rest` stands behind the lines whose text is written in part
   failed : (seen : Seen) (octets : List ℕ) (lines : List X) (rest : List ℕ) → WriteFailed seen
@@ -110,7 +114,7 @@ module _ {X P : Type 0} (line_at : List ℕ → LineAt X) (text_of : List X → 
     octets = [];
     answered = [];
     stands = stands;
-    near = subst (IsNear line_at) stands.unused (fresh-near line_at [] (omega arith));
+    near = opened-near line_at lines stands;
     took = consumes-none before;
     wrote = wrote;
     keeps = keeps;
@@ -150,7 +154,7 @@ module _ {X P : Type 0} (line_at : List ℕ → LineAt X) (text_of : List X → 
         octets = c.octets ++ t.0;
         answered = c.answered ++ line ∷ [];
         stands = t.2;
-        near = n.near;
+        near = fresh-near line_at new.buffer.unused n.within;
         took = consumes-append before mid now c.octets t.0 c.took t.1.0;
         wrote = put c.answered c.keeps held_before c.wrote;
         keeps = next c.answered c.keeps;
@@ -206,7 +210,7 @@ module _ {X P : Type 0} (line_at : List ℕ → LineAt X) (text_of : List X → 
       → Converted line_at text_of seen WriteFault
   line-failed Keeps seen old new mid held_mid pending line c n rose front =
       let t = tells Keeps old new seen.left_before mid seen.left_after seen.held_before held_mid pending seen.ended (Ok (Some line)) c n in
-      failed line_at text_of seen (c.octets ++ t.0) (c.answered ++ line ∷ []) new.buffer.unused rose (took-more seen mid c.octets t.0 c.took t.1.0) t.2.unused n.near
+      failed line_at text_of seen (c.octets ++ t.0) (c.answered ++ line ∷ []) new.buffer.unused rose (took-more seen mid c.octets t.0 c.took t.1.0) t.2.unused (fresh-near line_at new.buffer.unused n.within)
       (front c.answered c.keeps seen.held_before c.wrote)
 
   -- at the end

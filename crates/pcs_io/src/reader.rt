@@ -127,9 +127,9 @@ impl<P: Parser + Drop> Reader<P> {
         ensures later { S.faults source.old ≤ S.faults source.new }
         ensures read { IsErrOf result InFault.Read → (Rose (S.faults source.old) (S.faults source.new)) ⊎ (self.old.standing ≡ Standing.Failed InFault.Read) }
     {
-        let found = self.advance(source);
+        let answer = self.advance(source);
         self.stays_within();
-        found
+        answer
     }
 
     // The same, by its state alone.

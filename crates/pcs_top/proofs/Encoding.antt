@@ -29,7 +29,8 @@ use Rattle.pcs_top.specs.declared.encode.Halt.TheVariants as halt
 use Rattle.pcs_drive.specs.declared.outcome.Outcome.{Outcome}
 use Rattle.pcs_drive.specs.declared.outcome.Outcome.TheVariants.{Done, ReadFault, WriteFault, NoMemory, BadLine, BadHeader, TooTight, Cut, NotAligned, TooLong}
 use Rattle.pcs_drive.proofs.WritingLemmas.{wrote-all}
-use Rattle.pcs_drive.proofs.Copying.{Copied, reading, all-written, took-all, took-more, refused, behind-fault, tells}
+use Rattle.pcs_io.proofs.Progress.{fresh-near}
+use Rattle.pcs_drive.proofs.Copying.{Copied, opened-near, reading, all-written, took-all, took-more, refused, behind-fault, tells}
 
 no-lines : columns_of_lines [] ≡ []
 unfolding columns_of_lines
@@ -89,6 +90,7 @@ module _ (o : EncodeOptions) where
       octets = [];
       answered = [];
       stands = stands;
+      near = opened-near frame_line_at lines stands;
       took = consumes-none before;
       wrote = subst (λ xs. Wrote start held (begun_octets o xs) pending) (sym no-lines) put.sent.wrote;
       keeps = has-lines sender [] [] start held pending put no-lines;
@@ -114,6 +116,7 @@ module _ (o : EncodeOptions) where
           octets = c.octets ++ t.0;
           answered = c.answered ++ line ∷ [];
           stands = t.2;
+          near = fresh-near frame_line_at new.buffer.unused n.within;
           took = consumes-append before mid now c.octets t.0 c.took t.1.0;
           wrote = subst (λ xs. Wrote start held_now (begun_octets o xs) after) (sym (one-line c.answered line)) put.sent.wrote;
           keeps = has-lines later (c.answered ++ line ∷ []) (columns_of_lines c.answered ++ columns_of_line line) start held_now after put (one-line c.answered line);
