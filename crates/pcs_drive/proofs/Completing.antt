@@ -16,6 +16,7 @@ use Rattle.pcs_io.proofs.LineLaws.{begins-more, lines-behind, refused-more, refu
 use Rattle.pcs_drive.specs.Seen.{Seen, TookAll, ReadFailed, WriteFailed}
 use Rattle.pcs_drive.specs.LineCommand.{Converted, IsRefused}
 use Rattle.pcs_drive.specs.CaptureCommand.{TextBehind, FromFileBy, IsNoHeaderBy}
+use Rattle.pcs_drive.proofs.HeadersStay.{Stays, wrong-more}
 use Rattle.pcs_drive.specs.declared.outcome.Outcome.{Outcome}
 use Rattle.pcs_drive.specs.declared.outcome.Outcome.TheVariants.{Done, ReadFault, WriteFault, NoMemory, BadLine, BadHeader, TooTight, Cut, NotAligned, TooLong}
 
@@ -98,45 +99,14 @@ opens-alone at octets header other beats others over left o p =
     (omega (arith, o.2, o.3)) (omega (arith, p.2, p.3)) in
     (first, later.0, sym o.2 ∙ ap length later.1 ∙ p.2)
 
--- a header that is wrong stays so, whatever follows
-pub header-stays : (octets more : List ℕ) (bad : Refusal) → header_at octets ≡ Wrong bad → header_at (octets ++ more) ≡ Wrong bad
-unfolding header_at
-header-stays octets more bad is = elim (cases_lt (length octets) 16) [
-  | inl low ↦ absurd (let none : nat_le 16 (length octets) ≡ false = lt-leb 16 (length octets) low in let e : Short ≡ Wrong bad = rw none at is in cc)
-  | inr high ↦
-      let one : nat_le 16 (length octets) ≡ true = le-leb 16 (length octets) (omega (arith, high)) in
-      let long : nat_le 16 (length (octets ++ more)) ≡ true = le-leb 16 (length (octets ++ more)) (omega (arith, high, length-append octets more)) in
-      let five : take 5 (octets ++ more) ≡ take 5 octets = take-append-le 5 octets more (omega (arith, high)) in
-      let sixteen : take 16 (octets ++ more) ≡ take 16 octets = take-append-le 16 octets more (omega (arith, high)) in
-      rw (long, five, sixteen)
-      (by (is_version2 octets) (nat_le 32 (length octets)) (nat_le 32 (length (octets ++ more)))
-      (header2_of (take 32 octets)) (header2_of (take 32 (octets ++ more))) (header_of (take 16 octets))
-      (drop 32 octets) (drop 16 octets) (drop 32 (octets ++ more)) (drop 16 (octets ++ more)) (rw one at is)
-      (λ whole.
-      let enough : 32 ≤ length octets = leb-true 32 (length octets) whole in
-      (le-leb 32 (length (octets ++ more)) (omega (arith, enough, length-append octets more)), ap header2_of (sym (take-append-le 32 octets more enough)))))
-]
-  where
-    by : (version2 short long : Bool) (second other : Result Header Refusal) (first : Result Header Refusal) (a b c d : List ℕ)
-        → cond version2 (cond short (settled second a) Short) (settled first b) ≡ Wrong bad
-        → (short ≡ true → (long ≡ true) × (second ≡ other))
-        → cond version2 (cond long (settled other c) Short) (settled first d) ≡ Wrong bad
-    by true false long second other first a b c d e follows = absurd cc
-    by true true long (Ok header) other first a b c d e follows = absurd cc
-    by true true long (Err wrong) other first a b c d e follows =
-        let told = follows refl in
-        subst (λ l. cond l (settled other c) Short ≡ Wrong bad) (sym told.0) (subst (λ o. settled o c ≡ Wrong bad) told.1 e)
-    by false short long second other (Ok header) a b c d e follows = absurd cc
-    by false short long second other (Err wrong) a b c d e follows = e
-
 -- A command on a whole file of a kind, of which a header that is wrong stays so.
-module _ {X : Type 0} (at : List ℕ → FrontAt X) (stays : (octets more : List ℕ) (bad : Refusal) → at octets ≡ Wrong bad → at (octets ++ more) ≡ Wrong bad)
+module _ {X : Type 0} (at : List ℕ → FrontAt X) (stays : Stays at)
     (text : TextBehind X) (seen : Seen) (octets rest : List ℕ) (header : X) (beats : List (List ℕ)) (b : seen.left_before ≡ Some octets)
     (a : seen.left_after ≡ Some rest) (whole : OpensWholeBy at octets header beats 0) (aligned : (text header).is_aligned beats ≡ true) where
   no-refusal : (bad : Refusal) → IsNoHeaderBy at seen bad → ⊥
-  no-refusal bad (taken, inl (took, wrong)) =
+  no-refusal bad (taken, inl (took, wrong, few)) =
       let same = front seen.left_before seen.left_after octets rest taken b a took in
-      let is : Whole header whole.1.0 ≡ Wrong bad = sym whole.1.1 ∙ ap at same ∙ stays taken rest bad wrong in cc
+      let is : Whole header whole.1.0 ≡ Wrong bad = sym whole.1.1 ∙ ap at same ∙ wrong-more at taken rest bad stays wrong in cc
   no-refusal bad (taken, inr (cut, took, low, short)) =
       let is : Whole header whole.1.0 ≡ Short = sym whole.1.1 ∙ ap at (all seen octets rest taken b a took) ∙ short in cc
 

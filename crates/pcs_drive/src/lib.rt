@@ -3,12 +3,14 @@
 #![tactic(auto)]
 
 mod driver;
+mod laws;
 mod opening;
 mod outcome;
 mod output;
 mod task;
 
 pub use driver::drive;
+pub use laws::{captures_decide, levels_decide, lines_decide};
 pub use opening::{open_capture, open_levels};
 pub use outcome::Outcome;
 pub use output::Output;

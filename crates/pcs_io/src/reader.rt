@@ -127,7 +127,9 @@ impl<P: Parser + Drop> Reader<P> {
         ensures later { S.faults source.old ≤ S.faults source.new }
         ensures read { IsErrOf result InFault.Read → (Rose (S.faults source.old) (S.faults source.new)) ⊎ (self.old.standing ≡ Standing.Failed InFault.Read) }
     {
-        self.advance(source)
+        let answer = self.advance(source);
+        self.stays_within();
+        answer
     }
 
     // The same, by its state alone.
