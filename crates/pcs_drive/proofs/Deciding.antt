@@ -1,21 +1,68 @@
 -- The input decides how a command ends.
-use Rattle.std.proofs.Common.{◌≡◌, ℕ, ◌+◌, ◌^◌, ◌<◌, ◌≤◌, ◌⊎◌, inl, inr, Bool, true, false, List, [], ◌∷◌, ◌++◌, length, Option, sym, ◌∙◌, ap, ap₂, subst, refl, append-nil, append_assoc, length-append, arith}
-use Rattle.std.specs.Prelude.{nat_lt}
+use Rattle.std.proofs.Common.{◌≡◌, ℕ, ◌+◌, ◌^◌, ◌<◌, ◌≤◌, ◌⊎◌, inl, inr, Bool, true, false, List, [], ◌∷◌, ◌++◌, length, Option, Some, IfSome, sym, ◌∙◌, ap, ap₂, subst, refl, append-nil, append_assoc, length-append, arith}
+use Rattle.std.specs.Prelude.{◌≢◌, nat_lt}
 use Rattle.std.proofs.lemmas.Bool.{lt-ltb}
+use Rattle.pcs_io.specs.Octets.{TakesWhereTold}
+use Rattle.pcs_io.specs.Beats.{beat_at}
 use Rattle.pcs_io.specs.Grammars.{LineAt, Line, Refused, Open, IsGrammar, Begins, AreLines, EndOpen}
 use Rattle.pcs_io.specs.Captures.{FrontAt, Whole, Wrong, Short, OpensWholeBy}
 use Rattle.pcs_io.specs.declared.header.BadHeader.{BadHeader as Refusal}
 use Rattle.pcs_io.specs.declared.fault.Kind.{Kind}
 use Rattle.pcs_io.specs.declared.fault.Kind.TheVariants.{NoEnd}
+use Rattle.pcs_io.proofs.BeatPieces.{is-piece}
 use Rattle.pcs_io.proofs.LineLaws.{begins-more, refused-more}
-use Rattle.pcs_drive.specs.Seen.{Seen, Took}
+use Rattle.pcs_drive.specs.Seen.{Seen, Took, TookAll, ReadFailed, WriteFailed}
 use Rattle.pcs_drive.specs.LineCommand.{Converted, IsRefused}
 use Rattle.pcs_drive.specs.CaptureCommand.{BeatsText, TextBehind, TookAllBeatsBy, FromBeatsBy, FromFileBy, IsNoHeaderBy, outcome_at_end}
 use Rattle.pcs_drive.specs.Deciding.{IsSettled, Given, Decides, LinesDecide, BeatsDecide}
 use Rattle.pcs_drive.specs.declared.outcome.Outcome.{Outcome}
 use Rattle.pcs_drive.specs.declared.outcome.Outcome.TheVariants.{Done, ReadFault, WriteFault, NoMemory, BadLine, BadHeader, TooTight, Cut, NotAligned, TooLong}
-use Rattle.pcs_drive.proofs.Completing.{front, all, opens-alone}
 use Rattle.pcs_drive.proofs.HeadersStay.{Stays, wrong-more, whole-more}
+
+-- the octets taken are the front of those that the source had
+pub front : (before after : Option (List ℕ)) (octets rest taken : List ℕ) → before ≡ Some octets → after ≡ Some rest
+    → TakesWhereTold before after taken → octets ≡ taken ++ rest
+front before after octets rest taken b a took = subst (λ o. TakesWhereTold o (Some rest) taken) b (subst (λ o. TakesWhereTold before o taken) a took)
+
+-- or all of them, at the end
+pub all : (seen : Seen) (octets rest taken : List ℕ) → seen.left_before ≡ Some octets → seen.left_after ≡ Some rest → TookAll seen taken → octets ≡ taken
+all seen octets rest taken b a took =
+    let none : rest ≡ [] = subst (λ o. IfSome o (λ left. left ≡ [])) a took.nothing in
+    front seen.left_before seen.left_after octets rest taken b a took.took ∙ ap (λ r. taken ++ r) none ∙ append-nil taken
+
+-- Octets have one header and one list of beats.
+begins-alone : (octets : List ℕ) (beats others : List (List ℕ)) (rest left : List ℕ) → Begins beat_at octets beats rest → Begins beat_at octets others left
+    → length rest < 16 → length left < 16 → (beats ≡ others) × (rest ≡ left)
+begins-alone octets [] [] rest left b o short low = (refl, sym b ∙ o)
+begins-alone octets [] (other ∷ others) rest left b o short low =
+    let piece = is-piece octets other o.0 o.1 in absurd (omega (arith, short, ap length b, ap length piece.parts, piece.sixteen, length-append other o.0))
+begins-alone octets (beat ∷ beats) [] rest left b o short low =
+    let piece = is-piece octets beat b.0 b.1 in absurd (omega (arith, low, ap length o, ap length piece.parts, piece.sixteen, length-append beat b.0))
+begins-alone octets (beat ∷ beats) (other ∷ others) rest left b o short low =
+    let same : Line beat b.0 ≡ Line other o.0 = sym b.1 ∙ o.1 in
+    let first : beat ≡ other = cc in
+    let behind : b.0 ≡ o.0 = cc in
+    let later = begins-alone o.0 beats others rest left (subst (λ os. Begins beat_at os beats rest) behind b.2) o.2 short low in
+    (subst (λ f. beat ∷ beats ≡ f ∷ others) first (ap (λ bs. beat ∷ bs) later.0), later.1)
+
+pub opens-alone : {X : Type 0} (at : List ℕ → FrontAt X) (octets : List ℕ) (header other : X) (beats others : List (List ℕ)) (over left : ℕ)
+    → OpensWholeBy at octets header beats over → OpensWholeBy at octets other others left → (header ≡ other) × (beats ≡ others) × (over ≡ left)
+opens-alone at octets header other beats others over left o p =
+    let same : Whole header o.1.0 ≡ Whole other p.1.0 = sym o.1.1 ∙ p.1.1 in
+    let first : header ≡ other = cc in
+    let behind : o.1.0 ≡ p.1.0 = cc in
+    let later = begins-alone p.1.0 beats others o.0 p.0 (subst (λ os. Begins beat_at os beats o.0) behind o.1.2) p.1.2
+    (omega (arith, o.2, o.3)) (omega (arith, p.2, p.3)) in
+    (first, later.0, sym o.2 ∙ ap length later.1 ∙ p.2)
+
+-- an outcome is settled where no stream failed
+pub settled : (Answers : Outcome → Type 0) (seen : Seen) (outcome : Outcome) → Answers outcome → (Answers ReadFault → ReadFailed seen)
+    → (Answers WriteFault → WriteFailed seen) → outcome ≢ NoMemory → ¬ ReadFailed seen → ¬ WriteFailed seen → IsSettled outcome
+settled Answers seen outcome c read write memory reads writes = record {
+  reads = λ e. reads (read (subst Answers e c));
+  writes = λ e. writes (write (subst Answers e c));
+  memory = memory;
+}
 
 -- ---- of lines
 
@@ -125,25 +172,25 @@ module _ {X : Type 0} (line_at : List ℕ → LineAt X) (grammar : IsGrammar lin
         is = rw (ends.2, is, long) refl;
       }
 
-  converted : (text_of : List X → List ℕ) (seen : Seen) (input : List ℕ) (outcome : Outcome) → Given seen input → length input ≤ 2 ^ 40
+  pub stopped : (text_of : List X → List ℕ) (seen : Seen) (input : List ℕ) (outcome : Outcome) → Given seen input → length input ≤ 2 ^ 40
       → Converted line_at text_of seen outcome → IsSettled outcome → (lines : List X) × Stopped input lines outcome
-  converted text_of seen input Done g short c s =
+  stopped text_of seen input Done g short c s =
       (c.1, stopped-done input c.0 c.1 (all seen input g.rest c.0 g.before g.after c.2) c.4 c.3)
-  converted text_of seen input ReadFault g short c s = absurd (s.reads refl)
-  converted text_of seen input WriteFault g short c s = absurd (s.writes refl)
-  converted text_of seen input NoMemory g short c s = absurd (s.memory refl)
-  converted text_of seen input (BadLine number kind) g short c s =
+  stopped text_of seen input ReadFault g short c s = absurd (s.reads refl)
+  stopped text_of seen input WriteFault g short c s = absurd (s.writes refl)
+  stopped text_of seen input NoMemory g short c s = absurd (s.memory refl)
+  stopped text_of seen input (BadLine number kind) g short c s =
       (c.1, subst (λ n. Stopped input c.1 (BadLine n kind)) (sym c.2) (stopped-bad seen input c.0 c.1 kind g c.3))
-  converted text_of seen input (BadHeader bad) g short c s = absurd c
-  converted text_of seen input (TooTight frame) g short c s = absurd c
-  converted text_of seen input (Cut over) g short c s = absurd c
-  converted text_of seen input NotAligned g short c s = absurd c
-  converted text_of seen input TooLong g short c s = (c.1, stopped-long seen input c.0 c.1 g short c.2 c.4 c.3)
+  stopped text_of seen input (BadHeader bad) g short c s = absurd c
+  stopped text_of seen input (TooTight frame) g short c s = absurd c
+  stopped text_of seen input (Cut over) g short c s = absurd c
+  stopped text_of seen input NotAligned g short c s = absurd c
+  stopped text_of seen input TooLong g short c s = (c.1, stopped-long seen input c.0 c.1 g short c.2 c.4 c.3)
 
   pub lines-decide : LinesDecide line_at
   lines-decide text_of input short one other first second g h a b s t =
-      let x = converted text_of one input first g short a s in
-      let y = converted text_of other input second h short b t in
+      let x = stopped text_of one input first g short a s in
+      let y = stopped text_of other input second h short b t in
       one-stop input x.0 y.0 first second x.1 y.1
 
 -- ---- of beats
@@ -235,7 +282,7 @@ beats-decide at stays text before limit header input one other first second g h 
 
 -- ---- of whole files
 module _ {X : Type 0} (at : List ℕ → FrontAt X) (stays : Stays at) (text : TextBehind X) where
-  abbrev Found : List ℕ → Outcome → Type 0
+  abbrev pub Found : List ℕ → Outcome → Type 0
   Found input outcome = Behind at stays text (2 ^ 40) input outcome ⊎ NoHeader at stays text (2 ^ 40) input outcome
 
   no-header : (seen : Seen) (input : List ℕ) (bad : Refusal) → Given seen input → IsNoHeaderBy at seen bad → NoHeader at stays text (2 ^ 40) input (BadHeader bad)
@@ -248,7 +295,7 @@ module _ {X : Type 0} (at : List ℕ → FrontAt X) (stays : Stays at) (text : T
       let is = ap at same ∙ short in
       record { none = λ header rest whole. let e : Short ≡ Whole header rest = sym is ∙ whole in cc; is = rw (is, same) (ap (λ b. BadHeader b) cut) }
 
-  found : (seen : Seen) (input : List ℕ) (outcome : Outcome) → Given seen input → FromFileBy at text seen outcome → IsSettled outcome → Found input outcome
+  pub found : (seen : Seen) (input : List ℕ) (outcome : Outcome) → Given seen input → FromFileBy at text seen outcome → IsSettled outcome → Found input outcome
   found seen input Done g c s = inl (behind at stays text (2 ^ 40) seen [] input g c.0 Done c.1 s)
   found seen input ReadFault g c s = absurd (s.reads refl)
   found seen input WriteFault g c s = absurd (s.writes refl)
@@ -264,7 +311,7 @@ module _ {X : Type 0} (at : List ℕ → FrontAt X) (stays : Stays at) (text : T
   not-both input first second (inl e) n = n.none e.header e.whole.1.0 e.whole.1.1
   not-both input first second (inr l) n = n.none l.header l.rest l.whole
 
-  one-of : (input : List ℕ) (first second : Outcome) → Found input first → Found input second → first ≡ second
+  pub one-of : (input : List ℕ) (first second : Outcome) → Found input first → Found input second → first ≡ second
   one-of input first second (inl a) (inl b) = one-end at stays text (2 ^ 40) input first second a b
   one-of input first second (inl a) (inr n) = absurd (not-both input first second a n)
   one-of input first second (inr n) (inl b) = absurd (not-both input second first b n)

@@ -7,5 +7,5 @@ pub mod LevelsFront
 pub mod Beats
 pub mod HeadersStay
 pub mod Opened
-pub mod Completing
 pub mod Deciding
+pub mod Completing

@@ -10,7 +10,7 @@ mod output;
 mod task;
 
 pub use driver::drive;
-pub use laws::{captures_decide, levels_decide, lines_decide};
+pub use laws::the_input_decides;
 pub use opening::{open_capture, open_levels};
 pub use outcome::Outcome;
 pub use output::Output;
