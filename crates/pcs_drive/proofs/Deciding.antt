@@ -58,11 +58,7 @@ opens-alone at octets header other beats others over left o p =
 -- an outcome is settled where no stream failed
 pub settled : (Answers : Outcome → Type 0) (seen : Seen) (outcome : Outcome) → Answers outcome → (Answers ReadFault → ReadFailed seen)
     → (Answers WriteFault → WriteFailed seen) → outcome ≢ NoMemory → ¬ ReadFailed seen → ¬ WriteFailed seen → IsSettled outcome
-settled Answers seen outcome c read write memory reads writes = record {
-  reads = λ e. reads (read (subst Answers e c));
-  writes = λ e. writes (write (subst Answers e c));
-  memory = memory;
-}
+settled Answers seen outcome c read write memory reads writes = record { reads = λ e. reads (read (subst Answers e c)); writes = λ e. writes (write (subst Answers e c)); memory = memory }
 
 -- ---- of lines
 
@@ -165,12 +161,7 @@ module _ {X : Type 0} (line_at : List ℕ → LineAt X) (grammar : IsGrammar lin
       let same = front seen.left_before seen.left_after input g.rest octets g.before g.after took in
       let none = nothing-left g.rest (omega (arith, short, long, ap length same, length-append octets g.rest)) in
       let is : input ≡ octets = same ∙ ap (λ r. octets ++ r) none ∙ append-nil octets in
-      record {
-        rest = ends.0;
-        begins = subst (λ os. Begins line_at os lines ends.0) (sym is) ends.1;
-        stop = open-stop ends.0 ends.2;
-        is = rw (ends.2, is, long) refl;
-      }
+      record { rest = ends.0; begins = subst (λ os. Begins line_at os lines ends.0) (sym is) ends.1; stop = open-stop ends.0 ends.2; is = rw (ends.2, is, long) refl }
 
   pub stopped : (text_of : List X → List ℕ) (seen : Seen) (input : List ℕ) (outcome : Outcome) → Given seen input → length input ≤ 2 ^ 40
       → Converted line_at text_of seen outcome → IsSettled outcome → (lines : List X) × Stopped input lines outcome
