@@ -55,19 +55,3 @@ few-levels x h header s read none course =
     let joined = flat_map (λ piece. piece) s.pieces in
     let few : length (joined ++ []) ≤ 32 = only-levels (joined ++ []) header (at.0 []) in
     omega (arith, few, length-append joined [], ap length (pieces-parts h.octets s.pieces unused pieces), length-append joined unused)
-
--- a header that is wrong stays so, whatever follows
-pub levels-stay : (octets more : List ℕ) (bad : BadHeader) → levels_header_at octets ≡ Wrong bad → levels_header_at (octets ++ more) ≡ Wrong bad
-unfolding levels_header_at
-levels-stay octets more bad is = elim (cases_lt (length octets) 32) [
-  | inl low ↦ absurd (let none : nat_le 32 (length octets) ≡ false = lt-leb 32 (length octets) low in let e : Short ≡ Wrong bad = rw none at is in cc)
-  | inr high ↦
-      let one : nat_le 32 (length octets) ≡ true = le-leb 32 (length octets) (omega (arith, high)) in
-      let long : nat_le 32 (length (octets ++ more)) ≡ true = le-leb 32 (length (octets ++ more)) (omega (arith, high, length-append octets more)) in
-      let front : take 32 (octets ++ more) ≡ take 32 octets = take-append-le 32 octets more (omega (arith, high)) in
-      rw (long, front) (by (levels_header_of (take 32 octets)) (rw one at is))
-]
-  where
-    by : (r : Result LevelsHeader BadHeader) → settled r (drop 32 octets) ≡ Wrong bad → settled r (drop 32 (octets ++ more)) ≡ Wrong bad
-    by (Ok h) is = absurd cc
-    by (Err wrong) is = is

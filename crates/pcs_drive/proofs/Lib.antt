@@ -5,5 +5,7 @@ pub mod Driving
 pub mod OfKinds
 pub mod LevelsFront
 pub mod Beats
+pub mod HeadersStay
 pub mod Opened
+pub mod Deciding
 pub mod Completing

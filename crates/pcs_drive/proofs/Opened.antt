@@ -38,7 +38,7 @@ module _ {X : Type 0} (at : List ℕ → FrontAt X) (read_as : X → Front) wher
       by : (why : CapFault) → HeaderAnswersBy at (2 ^ 40) got seen.left_before seen.left_after seen.ended (Err why) → (why ≡ fault.Read → ReadFailed seen)
           → FromFileBy at text seen (outcome_of_capture why)
       by fault.Read a rose = inl (got, rose refl, a.0, a.1, nothing)
-      by (fault.BadHeader bad) (inl a) rose = ((got, inl (takes-consumed seen.left_before seen.left_after got a.0, a.1)), nothing)
+      by (fault.BadHeader bad) (inl a) rose = ((got, inl (takes-consumed seen.left_before seen.left_after got a.0, a.1, a.2)), nothing)
       by (fault.BadHeader bad) (inr a) rose =
           ((got, inr (a.0, record { took = a.1.source; nothing = a.1.nothing; ended = a.1.over }, a.2, a.3)), nothing)
       by fault.TooLong a rose = absurd (omega (arith, a.1, short got a.2))

@@ -84,11 +84,11 @@ FromBeats text before limit header seen outcome = FromBeatsBy header_at text bef
 abbrev pub FromLevelBeats : BeatsText → List ℕ → ℕ → LevelsHeader → Seen → Outcome → Type 0
 FromLevelBeats text before limit header seen outcome = FromBeatsBy levels_header_at text before limit header seen outcome
 
--- The octets taken are no header: a field is wrong, or the input ended before they were whole.
+-- The octets taken are no header: a field is wrong, and no more than a buffer was taken; or the input ended before they were whole.
 abbrev pub IsNoHeaderBy : {X : Type 0} → (List ℕ → FrontAt X) → Seen → Refusal → Type 0
 IsNoHeaderBy at seen bad =
     (octets : List ℕ)
-    × ((Took seen octets × (at octets ≡ Wrong bad))
+    × ((Took seen octets × (at octets ≡ Wrong bad) × (length octets < 65600))
     ⊎ ((bad ≡ record { place = length octets; cut = true }) × TookAll seen octets × (length octets < 2 ^ 40) × (at octets ≡ Short)))
 
 -- behind some header, all of this from the first octet on

@@ -5,3 +5,4 @@ pub mod LineCommand
 pub mod CaptureCommand
 pub mod FileKinds
 pub mod Tasks
+pub mod Deciding

@@ -3,12 +3,14 @@
 #![tactic(auto)]
 
 mod driver;
+mod laws;
 mod opening;
 mod outcome;
 mod output;
 mod task;
 
 pub use driver::drive;
+pub use laws::the_input_decides;
 pub use opening::{open_capture, open_levels};
 pub use outcome::Outcome;
 pub use output::Output;

@@ -1,5 +1,5 @@
 -- The call that reads the header, over every history.
-use Rattle.std.proofs.Common.{◌≡◌, ℕ, Bool, false, List, [], ◌∷◌, ◌++◌, length, refl, sym, ap, ◌∙◌, inl, inr, subst, append_assoc, append-nil, Option}
+use Rattle.std.proofs.Common.{◌≡◌, ℕ, ◌<◌, ◌≤◌, arith, Bool, false, List, [], ◌∷◌, ◌++◌, length, refl, sym, ap, ◌∙◌, inl, inr, subst, append_assoc, append-nil, Option}
 use Rattle.std.proofs.Common.{Some, None, Result, Ok, Err}
 use Rattle.std.specs.List.{flat_map}
 use Rattle.std.specs.Io.KnownBytes.{Consumes}
@@ -22,7 +22,7 @@ use Rattle.pcs_io.specs.declared.beats.CapFault.{CapFault}
 use Rattle.pcs_io.specs.declared.beats.Front.{Front}
 use Rattle.pcs_io.specs.declared.beats.Front.TheVariants as front
 use Rattle.pcs_io.proofs.Told.{consumes-append, consumes-none}
-use Rattle.pcs_io.proofs.BeatPieces.{is-piece}
+use Rattle.pcs_io.proofs.BeatPieces.{is-piece, pieces-length}
 use Rattle.pcs_io.proofs.HeaderReading.{AreShort, none-short, one-short, header1-is, header2-is, levels-is, levels-none-short, levels-one-short, piece-missing}
 
 -- a history of pieces
@@ -52,9 +52,11 @@ module _ {X : Type 0} (at : List ℕ → FrontAt X) (limit : ℕ) (old : ReaderS
   pub whole : (new : ReaderState BeatParserState) (now : Option (List ℕ)) (ended : Bool) (got : List ℕ) (pieces : List (List ℕ)) (header : Result X BadHeader)
       → Consumes before now got → (rest : List ℕ) → at got ≡ settled header rest
       → ((r : List ℕ) → at (flat_map (λ piece. piece) pieces ++ r) ≡ settled header r)
-      → lines.Stands beat_at new (pieces_read limit got pieces reader.Going) → Settles new now ended (refusal_of header)
-  whole new now ended got pieces (Ok header) took rest is follows stands = (got, (took, rest, is), pieces, reader.Going, stands, (follows, refl))
-  whole new now ended got pieces (Err bad) took rest is follows stands = (got, inl (took, is), pieces, reader.Going, stands, tt)
+      → lines.Stands beat_at new (pieces_read limit got pieces reader.Going) → length pieces ≤ 2 → length new.buffer.unused ≤ 65536
+      → Settles new now ended (refusal_of header)
+  whole new now ended got pieces (Ok header) took rest is follows stands two within = (got, (took, rest, is), pieces, reader.Going, stands, (follows, refl))
+  whole new now ended got pieces (Err bad) took rest is follows stands two within =
+      let few : length got < 65600 = omega (arith, two, within, pieces-length got pieces new.buffer.unused stands.unused) in (got, inl (took, is, few), pieces, reader.Going, stands, tt)
 
   -- a second piece behind the first one
   module _ (mid : ReaderState BeatParserState) (between : Option (List ℕ)) (soon : Bool) (front : List ℕ)
@@ -74,7 +76,7 @@ module _ {X : Type 0} (at : List ℕ → FrontAt X) (limit : ℕ) (old : ReaderS
         (consumes-append before between now t.0 u.0 t.1.0 u.1.0) rest
         (ap at parts ∙ reads behind rest first.sixteen second.sixteen)
         (λ r. ap (λ f. at ((front ++ f) ++ r)) (append-nil behind) ∙ reads behind r first.sixteen second.sixteen)
-        u.2
+        u.2 (omega arith) m.within
 
     second-missing : (answer : Result (Option (List ℕ)) InFault) (why : CapFault) → lines.Nexts beat_at mid new between now ended answer
         → piece_of answer new.buffer.taken ≡ Err why → Settles new now ended (Err why)
@@ -157,7 +159,7 @@ module _ (limit : ℕ) (old : ReaderState BeatParserState) (before : Option (Lis
       whole header_at limit old before fresh mid between soon t.0 (front ∷ []) (header_of front) t.1.0 t.1.2.0
       (ap header_at piece.parts ∙ header1-is front t.1.2.0 piece.sixteen other)
       (λ r. ap (λ f. header_at (f ++ r)) (append-nil front) ∙ header1-is front r piece.sixteen other)
-      t.2
+      t.2 (omega arith) n.within
 
   capture-on : (mid new : ReaderState BeatParserState) (between now : Option (List ℕ)) (soon ended : Bool) (first : Result (List ℕ) CapFault) (result : Result Header CapFault)
       → ReadsPiece old mid before between soon first → ReadsOn mid new between now soon ended first result → Settles header_at limit old before fresh new now ended result

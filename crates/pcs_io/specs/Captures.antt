@@ -135,7 +135,7 @@ abbrev pub HeaderAnswersBy : {X : Type 0} → (List ℕ → FrontAt X) → ℕ �
 HeaderAnswersBy at limit got before now ended (Ok header) = Consumes before now got × (rest : List ℕ) × (at got ≡ Whole header rest)
 HeaderAnswersBy at limit got before now ended (Err cap.Read) = TakesWhereTold before now got × (at got ≡ Short)
 HeaderAnswersBy at limit got before now ended (Err (cap.BadHeader bad)) =
-    (Consumes before now got × (at got ≡ Wrong bad))
+    (Consumes before now got × (at got ≡ Wrong bad) × (length got < 65600))
     ⊎ ((bad ≡ record { place = length got; cut = true }) × Ends before now ended got × (length got < limit) × (at got ≡ Short))
 HeaderAnswersBy at limit got before now ended (Err cap.TooLong) = Consumes before now got × (length got ≡ limit) × (at got ≡ Short)
 

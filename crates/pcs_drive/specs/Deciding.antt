@@ -1,0 +1,42 @@
+-- That the input decides: two runs that are given the same input end in the same way, but where a stream failed or there was no memory. So
+-- each refusal comes exactly where its cause is.
+use Rattle.std.specs.Prelude.{◌≡◌, ◌≢◌, ℕ, ◌≤◌, ◌^◌, List, length, Option, Some}
+use Rattle.pcs_io.specs.Grammars.{LineAt, IsGrammar}
+use Rattle.pcs_io.specs.Captures.{FrontAt}
+use Rattle.pcs_drive.specs.Seen.{Seen}
+use Rattle.pcs_drive.specs.LineCommand.{Converted}
+use Rattle.pcs_drive.specs.CaptureCommand.{BeatsText, TextBehind, CaptureText, LevelsText, FromBeatsBy, FromCapture, FromLevels}
+use Rattle.pcs_drive.specs.declared.outcome.Outcome.{Outcome}
+use Rattle.pcs_drive.specs.declared.outcome.Outcome.TheVariants.{ReadFault, WriteFault, NoMemory}
+
+-- no stream failed, and there was memory
+pub record IsSettled (outcome : Outcome) : Type 0 where
+  pub reads : outcome ≢ ReadFault
+  pub writes : outcome ≢ WriteFault
+  pub memory : outcome ≢ NoMemory
+
+-- the source told that it has this input, and it tells what is left behind the run
+pub record Given (seen : Seen) (input : List ℕ) : Type 0 where
+  pub before : seen.left_before ≡ Some input
+  pub rest : List ℕ
+  pub after : seen.left_after ≡ Some rest
+
+-- two runs on this input have one settled outcome
+abbrev pub Decides : List ℕ → (Seen → Outcome → Type 0) → Type 0
+Decides input Answers = (one other : Seen) (first second : Outcome) → Given one input → Given other input → Answers one first → Answers other second
+    → IsSettled first → IsSettled second → first ≡ second
+
+-- of a command on lines, in any grammar; an input above the limit may be refused or too long
+abbrev pub LinesDecide : {X : Type 0} → (List ℕ → LineAt X) → Type 0
+LinesDecide {X} line_at = (text_of : List X → List ℕ) (input : List ℕ) → length input ≤ 2 ^ 40 → Decides input (Converted line_at text_of)
+
+-- of a command on captures, and on files of levels
+abbrev pub CapturesDecide : Type 0
+CapturesDecide = (text : CaptureText) (input : List ℕ) → Decides input (FromCapture text)
+
+abbrev pub LevelsDecide : Type 0
+LevelsDecide = (text : LevelsText) (input : List ℕ) → Decides input (FromLevels text)
+
+-- of beats behind a header of any kind, with any limit
+abbrev pub BeatsDecide : {X : Type 0} → (List ℕ → FrontAt X) → Type 0
+BeatsDecide {X} at = (text : BeatsText) (before : List ℕ) (limit : ℕ) (header : X) (input : List ℕ) → Decides input (FromBeatsBy at text before limit header)
