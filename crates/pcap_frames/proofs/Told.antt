@@ -78,11 +78,7 @@ end-told : (order : Order) (old new : PcapState) (h : History) (before now : Opt
     → Advances order old new before now ended (Ok false) → Tells Going order h old new before now ended (Ok None)
 end-told order old new h before now ended b k a = (
   [],
-  (
-    ends _ _ before now ended [] a.1,
-    below-limit order old new h before now ended [] b a.1,
-    subst (λ rest. Opens order h.short (h.octets ++ []) h.frames rest) (append-nil old.buffer.unused ∙ a.0) (opens-got order old h [] b),
-  ),
+  (ends _ _ before now ended [] a.1, below-limit order old new h before now ended [] b a.1, subst (λ rest. Opens order h.short (h.octets ++ []) h.frames rest) (append-nil old.buffer.unused ∙ a.0) (opens-got order old h [] b)),
   record {
     limit = a.1.limit ∙ b.limit;
     taken = taken-got order old new h [] b a.1.taken;
@@ -122,10 +118,7 @@ fault-told order old new h before now ended (fault.BadRecord number kind) b k (s
 )
 fault-told order old new h before now ended (fault.BadRecord number kind) b k (same, inr r) records standing = (
   r.1,
-  (
-    same ∙ ap (λ n. n + 1) b.records,
-    inr (r.0, ends _ _ before now ended r.1 r.2, below-limit order old new h before now ended r.1 b r.2, old.buffer.unused ++ r.1, opens-got order old h r.1 b, at-history order old h r.1 b ∙ r.3, r.4),
-  ),
+  (same ∙ ap (λ n. n + 1) b.records, inr (r.0, ends _ _ before now ended r.1 r.2, below-limit order old new h before now ended r.1 b r.2, old.buffer.unused ++ r.1, opens-got order old h r.1 b, at-history order old h r.1 b ∙ r.3, r.4)),
   failed order old new h r.1 (fault.BadRecord number kind) b k r.2.taken r.2.limit records standing,
 )
 fault-told order old new h before now ended fault.TooLong b k f records standing = (
