@@ -86,3 +86,7 @@ try "$work/capture" migrate
 try "$work/capture" mux
 try "$work/levels" demux
 try "$work/symbols" kr
+printf '%s\n' 010203 aabb > "$work/text"
+"$program" pcap --write < "$work/text" > "$work/packets"
+try "$work/packets" pcap
+try "$work/text" pcap --write

@@ -27,6 +27,7 @@ printf '0 012\n' > "$work/odd"
 "$program" encode --period 1 --lead 2 --tail 1 < "$work/line" > "$work/capture"
 { cat "$work/capture"; printf '1234567'; } > "$work/over"
 head -c 16 "$work/capture" > "$work/header"
+printf '010203\n' | "$program" pcap --write | head -c 42 > "$work/cut"
 { printf '0 '; printf '5a%.0s' $(seq 16384); echo; } > "$work/long"
 
 look 0 60 '' "$work/line" blocks
@@ -43,6 +44,7 @@ look 7 0 'pcs: header wrong at octet 0' "$work/long" decode
 look 8 8176 'pcs: too tight at frame 1' "$work/long" encode --period 1 --lead 2 --tail 0
 look 9 7 'pcs: 7 octets over' "$work/over" decode
 look 10 0 'pcs: not aligned' "$work/header" decode
+look 13 0 'pcs: record 1: ended' "$work/cut" pcap
 # standard output that takes nothing, and standard error that takes nothing
 status=0
 "$program" blocks < "$work/line" > /dev/full 2> "$work/notes" || status=$?
@@ -50,5 +52,5 @@ status=0
 status=0
 "$program" blocks < "$work/odd" > /dev/null 2> /dev/full || status=$?
 [ "$status" = 12 ] || { differ=$((differ + 1)); echo "full notes: $status"; }
-echo "16 cases, $differ differ"
+echo "17 cases, $differ differ"
 [ "$differ" = 0 ]

@@ -1,5 +1,6 @@
 pub mod WritingLemmas
 pub mod PuttingLong
+pub mod PuttingMore
 pub mod Copying
 pub mod Driving
 pub mod OfKinds

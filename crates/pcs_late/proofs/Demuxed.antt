@@ -1,5 +1,5 @@
 -- What `demux` writes, beat by beat.
-use Rattle.std.proofs.Common.{◌≡◌, ℕ, ◌+◌, ◌<◌, ◌⊎◌, inl, inr, Bool, true, List, [], ◌∷◌, ◌++◌, length, Option, Some, None}
+use Rattle.std.proofs.Common.{◌≡◌, ℕ, ◌<◌, ◌⊎◌, inl, inr, Bool, true, List, [], ◌∷◌, ◌++◌, length, Option, Some, None}
 use Rattle.std.proofs.Common.{refl, sym, ◌∙◌, ap, subst, append_assoc, append-nil, length-append, arith}
 use Rattle.std.specs.Prelude.{◌↔◌, IfSome, slice_index}
 use Rattle.std.specs.List.{flat_map}
@@ -150,7 +150,3 @@ module _ {T : Type 0} (demux_of : T → Demux) where
   breaks-ending old answer held held_now pending ends breaks_off text taken start p =
       subst (AppendsFront start held_now) (sym (last-one (demux_of old) answer ends text taken p.keeps))
       (front-more start held_now (text.so_far taken) (octets_given answer) (breaks_off start (text.so_far taken) p.wrote))
-
--- nothing is put
-pub puts-none : (held : Option (List ℕ)) (pending : List ℕ) → Puts held pending [] held pending
-puts-none held pending start text wrote = subst (λ t. Wrote start held t pending) (sym (append-nil text)) wrote

@@ -2,3 +2,6 @@ pub mod KrLemmas
 pub mod Muxed
 pub mod Demuxed
 pub mod Carried
+pub mod Packed
+pub mod Unpacked
+pub mod WholeFiles

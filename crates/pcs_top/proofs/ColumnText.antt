@@ -22,7 +22,7 @@ use Rattle.pcs_top.specs.ColumnTexts.{call_of, calls_of, refilled, column_lines,
 use Rattle.pcs_top.specs.EventTexts.{EventText, Meaning, Grows, HasTold, IsListening, HasBegun}
 use Rattle.pcs_top.specs.Texts.{block_line, column_text}
 use Rattle.pcs_top.proofs.PuttingBlocks.{column_text-append, column_text-one}
-use Rattle.pcs_top.proofs.PuttingMore.{puts-none, puts-both, breaks-later, breaks-within}
+use Rattle.pcs_drive.proofs.PuttingMore.{puts-none, puts-both, breaks-later, breaks-within}
 use Rattle.pcs_top.proofs.Telling.{listening-start, listening-grows, no-events}
 
 pub calls-append : (es more : List Event) → calls_of (es ++ more) ≡ calls_of more ++ calls_of es

@@ -7,7 +7,6 @@ pub mod Idling
 pub mod Capturing
 pub mod PuttingColumns
 pub mod PuttingLines
-pub mod PuttingMore
 pub mod Framing
 pub mod Encoding
 pub mod Telling

@@ -6,7 +6,7 @@ use Rattle.std.proofs.lemmas.List.Concat.{flat_map-append}
 use Rattle.pcs_watch.specs.Watching.{Seen as Watched}
 use Rattle.pcs_drive.specs.Writing.{Puts, BreaksOff, BreaksOffBefore}
 use Rattle.pcs_drive.proofs.PuttingLong.{breaks-more}
-use Rattle.pcs_top.proofs.PuttingMore.{puts-none, puts-both, breaks-later, breaks-within}
+use Rattle.pcs_drive.proofs.PuttingMore.{puts-none, puts-both, breaks-later, breaks-within}
 use Rattle.pcs_top.specs.Reporting.{numbers_text, tally_line, tally_text}
 
 -- ---- numbers

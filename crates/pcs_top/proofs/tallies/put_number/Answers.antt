@@ -1,6 +1,6 @@
 use Rattle.std.proofs.lemmas.Result.{err_from_is_err_and}
 use Rattle.pcs_drive.proofs.PuttingLong.{breaks-before}
-use Rattle.pcs_top.proofs.PuttingMore.{breaks-within}
+use Rattle.pcs_drive.proofs.PuttingMore.{breaks-within}
 use Rattle.pcs_top.proofs.tallies.put_number.Goals as goal
 
 pub returns-in_err-put-clause-err : goal.returns-in_err-put-clause-err

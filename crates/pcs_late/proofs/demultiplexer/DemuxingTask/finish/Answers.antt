@@ -1,7 +1,8 @@
-use Rattle.std.proofs.Common.{Some, None}
+use Rattle.std.proofs.Common.{Some, None, [], refl}
 use Rattle.std.proofs.lemmas.Result.{err_from_is_err_and}
+use Rattle.pcs_drive.proofs.PuttingMore.{puts-none}
 use Rattle.pcs_late.specs.declared.demultiplexer.Demuxing.{Demuxing}
-use Rattle.pcs_late.proofs.Demuxed.{finished, breaks-ending, puts-none}
+use Rattle.pcs_late.proofs.Demuxed.{finished, breaks-ending}
 use Rattle.pcs_late.proofs.demultiplexer.DemuxingTask.finish.Goals as goal
 
 pub returns-in_ok-put-clause-ok : goal.returns-in_ok-put-clause-ok
@@ -16,4 +17,4 @@ returns-in_err-put-clause-err g c =
 
 pub returns-in_default-clause-ok : goal.returns-in_default-clause-ok
 returns-in_default-clause-ok g c = λ text beats start p. finished (λ (x : Demuxing). x.demux) _ None _ _ _ _
-    (record { none = c.in_default.ensures.none; gives = c.in_default.ensures.gives; is = c.in_default.ensures.beat }) (puts-none _ _) text beats start p
+    (record { none = c.in_default.ensures.none; gives = c.in_default.ensures.gives; is = c.in_default.ensures.beat }) (puts-none _ _ [] refl) text beats start p

@@ -1,0 +1,20 @@
+use Rattle.std.proofs.lemmas.Result.{err_from_is_err_and}
+use Rattle.pcs_drive.proofs.PuttingLong.{breaks-before}
+use Rattle.pcs_drive.proofs.PuttingMore.{puts-both, breaks-within}
+use Rattle.pcs_late.proofs.packer.put_record.Goals as goal
+
+pub returns-in_err-put-clause-err : goal.returns-in_err-put-clause-err
+returns-in_err-put-clause-err g c =
+    let exit = err_from_is_err_and c.from_residual.result c.from_residual.ensures.1 in
+    rw exit.1 (breaks-before _ _ _ _ c.in_err-put.ensures.err)
+
+pub returns-in_err-put-2-clause-err : goal.returns-in_err-put-2-clause-err
+returns-in_err-put-2-clause-err g c =
+    let exit = err_from_is_err_and c.from_residual-in_err-put-2.result c.from_residual-in_err-put-2.ensures.1 in
+    let front = rw (c.record_header.ensures) at c.in_ok-put.ensures.ok in
+    rw exit.1 (breaks-within _ _ _ _ _ _ _ front c.in_err-put-2.ensures.err)
+
+pub returns-clause-ok : goal.returns-clause-ok
+returns-clause-ok g c =
+    let front = rw (c.record_header.ensures) at c.in_ok-put.ensures.ok in
+    puts-both _ _ _ _ _ _ _ _ front c.in_ok-put-2.ensures.ok
