@@ -8,6 +8,13 @@ ghost use Rattle.rs_code.specs.Register.{AreMultiples, first_row};
 use gf_lanes::{Gf32, add};
 use gf1024::Gf;
 
+// Rows of numbers, with nothing between the numbers.
+macro_rules! rows {
+    ($([$($number:literal)*])*) => { [$([$($number),*]),*] };
+}
+
+pub(crate) use rows;
+
 mod x30;
 mod x31;
 mod x32;
