@@ -1,5 +1,5 @@
--- An input in the grammar is turned into its text.
-use Rattle.std.proofs.Common.{◌≡◌, ℕ, ◌^◌, ◌<◌, ◌⊎◌, inl, inr, List, [], ◌++◌, length, Some, Result, Ok, Err, sym, ◌∙◌, ap, subst, refl, append_assoc, arith, ◌∷◌}
+-- An input in the grammar is turned into its text, and the input decides how a command ends.
+use Rattle.std.proofs.Common.{◌≡◌, ℕ, ◌^◌, ◌<◌, ◌⊎◌, inl, inr, List, [], ◌++◌, length, Some, Result, Ok, Err, sym, ◌∙◌, ap, subst, refl, append_assoc, arith, ◌∷◌, ◌+◌, ◌≤◌, length-append}
 use Rattle.std.proofs.lemmas.List.{reverse-append}
 use Rattle.mac_columns.specs.declared.column.Column.{Column}
 use Rattle.pcs_watch.specs.Watching.{Seen as Watched}
@@ -14,7 +14,7 @@ use Rattle.pcs_io.specs.BlockGrammar.{block_grammar}
 use Rattle.pcs_io.specs.SymbolLines.{symbol_line_at}
 use Rattle.pcs_io.specs.SymbolGrammar.{symbol_grammar}
 use Rattle.pcs_io.specs.Grammars.{Begins, AreLines}
-use Rattle.pcs_io.proofs.LineLaws.{begins-more, lines-behind}
+use Rattle.pcs_io.proofs.LineLaws.{begins-more}
 use Rattle.pcs_words.specs.declared.command.Command.{Command}
 use Rattle.pcs_words.specs.declared.command.Command.TheVariants as command
 use Rattle.pcs_words.specs.declared.command.EncodeOptions.{EncodeOptions}
@@ -26,8 +26,8 @@ use Rattle.pcs_drive.specs.LineCommand.{Converted, OrNoMemory}
 use Rattle.pcs_drive.specs.CaptureCommand.{CaptureText, FromCapture, FromLevels}
 use Rattle.pcs_drive.specs.declared.outcome.Outcome.{Outcome}
 use Rattle.pcs_drive.specs.declared.outcome.Outcome.TheVariants.{Done, ReadFault, WriteFault, NoMemory, BadLine, BadHeader, TooTight, Cut, NotAligned, TooLong}
-use Rattle.pcs_drive.proofs.LevelsFront.{levels-stay}
-use Rattle.pcs_drive.proofs.Completing.{front, none-bad, none-long, converted, header-stays, captured}
+use Rattle.pcs_drive.proofs.Completing.{front, all, converted, captured}
+use Rattle.pcs_drive.proofs.HeadersStay.{header-stays, levels-stay}
 use Rattle.pcs_late.specs.Kr.{kr_text}
 use Rattle.pcs_late.specs.Multiplexing.{multiplexed}
 use Rattle.pcs_late.specs.Demultiplexing.{demultiplexed}
@@ -46,6 +46,10 @@ use Rattle.pcs_top.specs.Top.{Answers, Performs, Runs, IsWholeCapture, IsWholeLe
 use Rattle.pcs_top.specs.declared.status.Status.{Status}
 use Rattle.pcs_top.specs.declared.status.Status.TheVariants as answer
 use Rattle.pcs_top.proofs.Encoding.{columns-append, one-line}
+use Rattle.std.proofs.lemmas.Bool.{cases_lt}
+use Rattle.pcs_drive.specs.Deciding.{IsSettled, Given, Decides}
+use Rattle.pcs_drive.proofs.Deciding.{settled, Stopped, one-stop, stopped-done, stopped-bad, stopped-long, stops, longer, lines-decide, files-decide}
+use Rattle.pcs_top.specs.Laws.{IsSettled as IsSettledStatus, EncodeDecides, CommandsDecide}
 
 -- no column of an input with legal gaps brings the debt above its limit
 module _ (options : EncodeOptions) (lines : List FrameLine) (line : FrameLine) (own : List Column) where
@@ -64,32 +68,99 @@ module _ (options : EncodeOptions) (lines : List FrameLine) (line : FrameLine) (
       let front_legal = legal_gaps-front options.period up_to (tight.rest ++ columns_of_lines others) (subst (HasLegalGaps options.period) parts legal) in
       omega (arith, tight.debt, legal_gaps-whole options.period up_to front_legal, ap (debt options.period) (reverse-append (before ++ own) (tight.column ∷ [])))
 
-  none-tight : (octets taken rest behind : List ℕ) (all : List FrameLine) → octets ≡ taken ++ rest → AreLines frame_line_at octets all
-      → HasLegalGaps options.period (columns_of_lines all)
-      → Begins frame_line_at taken (lines ++ line ∷ []) behind → IsTooTight options.period before own (columns_of_line line) → ⊥
-  none-tight octets taken rest behind all same whole legal begins tight =
-      let others = lines-behind frame_line_at octets (lines ++ line ∷ []) (behind ++ rest) all frame_grammar
-      (subst (λ os. Begins frame_line_at os (lines ++ line ∷ []) (behind ++ rest)) (sym same) (begins-more frame_line_at taken (lines ++ line ∷ []) behind rest frame_grammar begins)) whole in
-      none-over others.0 (subst (λ ls. HasLegalGaps options.period (columns_of_lines ls)) others.2 legal) tight
+module _ (options : EncodeOptions) (input : List ℕ) where
+  -- these are all lines that are read, and their gaps are legal
+  record Legal (outcome : Outcome) : Type 0 where
+    pub lines : List FrameLine
+    pub legal : HasLegalGaps options.period (columns_of_lines lines)
+    pub stopped : Stopped frame_line_at frame_grammar input lines outcome
+
+  -- the gaps of the lines up to this one aren't
+  record Tight (outcome : Outcome) : Type 0 where
+    pub lines : List FrameLine
+    pub line : FrameLine
+    pub rest : List ℕ
+    pub own : List Column
+    pub begins : Begins frame_line_at input (lines ++ line ∷ []) rest
+    pub tight : IsTooTight options.period (columns_of_lines lines) own (columns_of_line line)
+    pub is : outcome ≡ TooTight (length lines + 1)
+
+  ended : (seen : Seen) (outcome : Outcome) → Given seen input → length input ≤ 2 ^ 40 → Encoded options seen outcome → IsSettled outcome
+      → Legal outcome ⊎ Tight outcome
+  ended seen Done g short e s = inl (record {
+    lines = e.1;
+    legal = e.5;
+    stopped = stopped-done frame_line_at frame_grammar input e.0 e.1 (all seen input g.rest e.0 g.before g.after e.2) e.4 e.3;
+  })
+  ended seen ReadFault g short e s = absurd (s.reads refl)
+  ended seen WriteFault g short e s = absurd (s.writes refl)
+  ended seen NoMemory g short e s = absurd e
+  ended seen (BadLine number kind) g short e s = inl (record {
+    lines = e.1;
+    legal = e.4.legal;
+    stopped =
+        subst (λ n. Stopped frame_line_at frame_grammar input e.1 (BadLine n kind)) (sym e.2)
+        (stopped-bad frame_line_at frame_grammar seen input e.0 e.1 kind g e.3);
+  })
+  ended seen (BadHeader bad) g short e s = absurd e
+  ended seen (TooTight frame) g short e s =
+      let same = front seen.left_before seen.left_after input g.rest e.0 g.before g.after e.6 in
+      inr (record {
+        lines = e.1;
+        line = e.2;
+        rest = e.3 ++ g.rest;
+        own = e.4;
+        begins =
+            subst (λ os. Begins frame_line_at os (e.1 ++ e.2 ∷ []) (e.3 ++ g.rest)) (sym same)
+            (begins-more frame_line_at e.0 (e.1 ++ e.2 ∷ []) e.3 g.rest frame_grammar e.7);
+        tight = e.9;
+        is = ap (λ n. TooTight n) e.5;
+      })
+  ended seen (Cut over) g short e s = absurd e
+  ended seen NotAligned g short e s = absurd e
+  ended seen TooLong g short e s = inl (record { lines = e.1; legal = e.5.legal; stopped = stopped-long frame_line_at frame_grammar seen input e.0 e.1 g short e.2 e.4 e.3 })
+
+  not-both : (first second : Outcome) → Legal first → Tight second → ⊥
+  not-both first second l t =
+      let s = l.stopped in
+      let more = stops frame_line_at frame_grammar input l.lines (t.lines ++ t.line ∷ []) s.rest t.rest s.begins s.stop t.begins in
+      none-over options t.lines t.line t.own more.0 (subst (λ ls. HasLegalGaps options.period (columns_of_lines ls)) more.1 l.legal) t.tight
+
+  no-earlier : (first second : Outcome) (a : Tight first) (b : Tight second) → length a.lines < length b.lines → ⊥
+  no-earlier first second a b low =
+      let more = longer frame_line_at frame_grammar input b.lines (b.line ∷ []) (a.lines ++ a.line ∷ []) b.rest a.rest b.begins a.begins (omega (arith, low, length-append a.lines (a.line ∷ []))) in
+      let legal = legal_gaps-front options.period (columns_of_lines b.lines) b.own b.tight.legal in
+      none-over options a.lines a.line a.own more.0 (subst (λ ls. HasLegalGaps options.period (columns_of_lines ls)) more.1 legal) a.tight
+
+  one-tight : (first second : Outcome) → Tight first → Tight second → first ≡ second
+  one-tight first second a b = elim (cases_lt (length a.lines) (length b.lines)) [
+    | inl low ↦ absurd (no-earlier first second a b low)
+    | inr high ↦ elim (cases_lt (length b.lines) (length a.lines)) [
+      | inl low ↦ absurd (no-earlier second first b a low)
+      | inr same ↦ a.is ∙ ap (λ n. TooTight n) (omega (arith, high, same)) ∙ sym b.is
+    ]
+  ]
+
+  one-of : (first second : Outcome) → Legal first ⊎ Tight first → Legal second ⊎ Tight second → first ≡ second
+  one-of first second (inl a) (inl b) = one-stop frame_line_at frame_grammar input a.lines b.lines first second a.stopped b.stopped
+  one-of first second (inl a) (inr b) = absurd (not-both first second a b)
+  one-of first second (inr a) (inl b) = absurd (not-both second first b a)
+  one-of first second (inr a) (inr b) = one-tight first second a b
+
+pub encode-decides : EncodeDecides
+encode-decides options input short one other first second g h a b s t =
+    one-of options input first second (ended options input one first g short a s) (ended options input other second h short b t)
 
 encoded : (options : EncodeOptions) (seen : Seen) (octets rest : List ℕ) (lines : List FrameLine) (outcome : Outcome)
     → seen.left_before ≡ Some octets → seen.left_after ≡ Some rest
     → AreLines frame_line_at octets lines → HasLegalGaps options.period (columns_of_lines lines) → length octets < 2 ^ 40
     → ¬ ReadFailed seen → ¬ WriteFailed seen
     → Encoded options seen outcome → outcome ≡ Done
-encoded options seen octets rest lines Done b a whole legal short reads writes c = refl
-encoded options seen octets rest lines ReadFault b a whole legal short reads writes c = absurd (reads c.2)
-encoded options seen octets rest lines WriteFault b a whole legal short reads writes c = absurd (writes c.2)
-encoded options seen octets rest lines NoMemory b a whole legal short reads writes c = absurd c
-encoded options seen octets rest lines (BadLine number kind) b a whole legal short reads writes c =
-    absurd (none-bad frame_line_at frame_grammar seen octets rest c.0 lines c.1 kind b a whole c.3)
-encoded options seen octets rest lines (BadHeader bad) b a whole legal short reads writes c = absurd c
-encoded options seen octets rest lines (TooTight frame) b a whole legal short reads writes c =
-    absurd (none-tight options c.1 c.2 c.4 octets c.0 rest c.3 lines (front seen.left_before seen.left_after octets rest c.0 b a c.6) whole legal c.7 c.8)
-encoded options seen octets rest lines (Cut over) b a whole legal short reads writes c = absurd c
-encoded options seen octets rest lines NotAligned b a whole legal short reads writes c = absurd c
-encoded options seen octets rest lines TooLong b a whole legal short reads writes c =
-    absurd (none-long frame_line_at frame_grammar octets rest c.0 (front seen.left_before seen.left_after octets rest c.0 b a c.2) short c.3)
+encoded options seen octets rest lines outcome b a whole legal short reads writes c =
+    let g : Given seen octets = record { before = b; rest = rest; after = a } in
+    let is = settled (Encoded options seen) seen outcome c (λ d. d.2) (λ d. d.2) (λ e. subst (Encoded options seen) e c) reads writes in
+    one-of options octets outcome Done (ended options octets seen outcome g (omega (arith, short)) c is)
+    (inl (record { lines = lines; legal = legal; stopped = stopped-done frame_line_at frame_grammar octets octets lines refl whole short }))
 
 -- the line on the notes changes no status where no write failed
 pub noted : (outcome status : Status) (heard : Heard) → ¬ Rose heard.writes_before heard.writes_after → Noted outcome heard status → status ≡ outcome
@@ -177,3 +248,60 @@ complete watchers words seen heard status runs octets rest b a within short noth
     performs : Performs watchers words seen runs.0 → (runs.0 ≡ answer.Done) ⊎ (runs.0 ≡ answer.NoMemory)
     performs (inl c) = answers watchers words seen heard runs.0 octets rest b a within short nothing c
     performs (inr none) = inr none.0
+
+-- ---- of every command
+tried-decide : (options : TrialOptions) (input : List ℕ) → Decides input (Tried options)
+tried-decide options input one other first second g h a b s t = done one first a s ∙ sym (done other second b t)
+  where
+    done : (seen : Seen) (outcome : Outcome) → Tried options seen outcome → IsSettled outcome → outcome ≡ Done
+    done seen Done c s = refl
+    done seen ReadFault c s = absurd c
+    done seen WriteFault c s = absurd (s.writes refl)
+    done seen NoMemory c s = absurd (s.memory refl)
+    done seen (BadLine number kind) c s = absurd c
+    done seen (BadHeader bad) c s = absurd c
+    done seen (TooTight frame) c s = absurd c
+    done seen (Cut over) c s = absurd c
+    done seen NotAligned c s = absurd c
+    done seen TooLong c s = absurd c
+
+by-status : (outcome : Outcome) (status : Status) → status ≡ status_of outcome → IsSettledStatus status → IsSettled outcome
+by-status outcome status is s = record { reads = λ e. s.reads (is ∙ ap status_of e); writes = λ e. s.writes (is ∙ ap status_of e); memory = λ e. s.memory (is ∙ ap status_of e) }
+
+with-memory : (Table : Seen → Outcome → Type 0) (input : List ℕ) → Decides input Table → Decides input (OrNoMemory Table)
+with-memory Table input decide one other first second g h (inl a) (inl b) s t = decide one other first second g h a b s t
+with-memory Table input decide one other first second g h (inr none) b s t = absurd (s.memory none.0)
+with-memory Table input decide one other first second g h (inl a) (inr none) s t = absurd (t.memory none.0)
+
+module _ (watchers : List Watched) (input : List ℕ) (one other : Seen) (first second : Status) (short : length input ≤ 2 ^ 40)
+    (g : Given one input) (h : Given other input) (s : IsSettledStatus first) (t : IsSettledStatus second) where
+  one-outcome : (Table : Seen → Outcome → Type 0) → Decides input Table → ByOutcome (Table one) first → ByOutcome (Table other) second → first ≡ second
+  one-outcome Table decide (x, is, a) (y, so, b) =
+      is ∙ ap status_of (decide one other x y g h a b (by-status x first is s) (by-status y second so t)) ∙ sym so
+
+  one-of-lines : (Table : Seen → Outcome → Type 0) → Decides input Table → ByOutcome (OrNoMemory Table one) first → ByOutcome (OrNoMemory Table other) second
+      → first ≡ second
+  one-of-lines Table decide a b = one-outcome (OrNoMemory Table) (with-memory Table input decide) a b
+
+  one-of-captures : (text : CaptureText) → ByOutcome (FromCapture text one) first → ByOutcome (FromCapture text other) second → first ≡ second
+  one-of-captures text a b = one-outcome (FromCapture text) (files-decide header_at header-stays text input) a b
+
+  settled-answers : (words : Result Command Refusal) → Answers watchers words one first → Answers watchers words other second → first ≡ second
+  settled-answers (Err refusal.Memory) a b = a.0 ∙ sym b.0
+  settled-answers (Err (refusal.Usage cause)) a b = a.0 ∙ sym b.0
+  settled-answers (Ok command.Blocks) a b = one-of-lines _ (lines-decide frame_line_at frame_grammar block_text input short) a b
+  settled-answers (Ok command.Unblock) a b = one-of-lines _ (lines-decide block_line_at block_grammar unblock_text input short) a b
+  settled-answers (Ok command.Kr) a b = one-of-lines _ (lines-decide symbol_line_at symbol_grammar kr_text input short) a b
+  settled-answers (Ok (command.Encode options)) a b = one-of-lines (Encoded options) (encode-decides options input short) a b
+  settled-answers (Ok (command.Decode options)) a b = one-of-captures (decoded options.skew) a b
+  settled-answers (Ok (command.Report options)) a b = one-of-captures (reported watchers options.skew) a b
+  settled-answers (Ok (command.Columns options)) a b = one-of-captures (columned options.skew) a b
+  settled-answers (Ok (command.Impair items)) a b = one-of-captures (impairing items) a b
+  settled-answers (Ok (command.Trial options)) a b = one-outcome (Tried options) (tried-decide options input) a b
+  settled-answers (Ok (command.Migrate options)) a b = one-of-captures (migrated options.skew) a b
+  settled-answers (Ok (command.Mux options)) a b = one-of-captures (multiplexed options.precode) a b
+  settled-answers (Ok (command.Demux options)) a b = one-outcome _ (files-decide levels_header_at levels-stay (demultiplexed options.phase) input) a b
+  settled-answers (Ok (command.Pcap options)) a b = a.0 ∙ sym b.0
+
+pub commands-decide : CommandsDecide
+commands-decide watchers words input one other first second short g h a b s t = settled-answers watchers input one other first second short g h s t words a b

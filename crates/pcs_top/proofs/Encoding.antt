@@ -1,5 +1,5 @@
 -- Lines that are sent one by one.
-use Rattle.std.proofs.Common.{◌≡◌, ℕ, ◌^◌, ◌≤◌, inl, inr, List, [], ◌∷◌, ◌++◌, length, Option, Some, None, Result, Ok, Err, Bool, refl, sym, ◌∙◌, ap, subst, arith, append-nil, append_assoc, length-append}
+use Rattle.std.proofs.Common.{◌≡◌, ℕ, ◌+◌, ◌^◌, ◌<◌, ◌≤◌, inl, inr, List, [], ◌∷◌, ◌++◌, length, Option, Some, None, Result, Ok, Err, Bool, refl, sym, ◌∙◌, ap, subst, arith, append-nil, append_assoc, length-append}
 use Rattle.std.proofs.lemmas.List.Concat.{flat_map-append}
 use Rattle.mac_columns.specs.declared.column.Column.{Column}
 use Rattle.rate_match.specs.Kept.{HasLegalGaps}
@@ -20,15 +20,16 @@ use Rattle.pcs_drive.specs.Seen.{Seen, TookAll, Written, ReadFailed, WriteFailed
 use Rattle.pcs_drive.specs.Outcomes.{outcome_of}
 use Rattle.pcs_top.specs.Captures.{begun_octets, sent_octets}
 use Rattle.pcs_top.specs.LineColumns.{columns_of_line, columns_of_lines}
-use Rattle.pcs_top.specs.Encoding.{BrokeOff, Encoded, Encodes, HasBegun}
+use Rattle.pcs_top.specs.Encoding.{BrokeOff, HasWaited, Encoded, Encodes, HasBegun}
 use Rattle.pcs_top.specs.Sending.{HasPut, LineHalts}
-use Rattle.pcs_drive.specs.Writing.{Wrote, Stays, BreaksOffBefore}
+use Rattle.std.specs.Prelude.{IfSome}
+use Rattle.pcs_drive.specs.Writing.{Wrote, Stays, BreaksOffBefore, IsLonger}
 use Rattle.pcs_words.specs.declared.command.EncodeOptions.{EncodeOptions}
 use Rattle.pcs_top.specs.declared.encode.Halt.{Halt}
 use Rattle.pcs_top.specs.declared.encode.Halt.TheVariants as halt
 use Rattle.pcs_drive.specs.declared.outcome.Outcome.{Outcome}
 use Rattle.pcs_drive.specs.declared.outcome.Outcome.TheVariants.{Done, ReadFault, WriteFault, NoMemory, BadLine, BadHeader, TooTight, Cut, NotAligned, TooLong}
-use Rattle.pcs_drive.proofs.WritingLemmas.{wrote-all}
+use Rattle.pcs_drive.proofs.WritingLemmas.{wrote-all, same-told}
 use Rattle.pcs_io.proofs.Progress.{fresh-near}
 use Rattle.pcs_drive.proofs.Copying.{Copied, opened-near, reading, all-written, took-all, took-more, refused, behind-fault, tells}
 
@@ -59,25 +60,50 @@ module _ (o : EncodeOptions) where
   abbrev pub HasLines : State → List FrameLine → Type 0
   HasLines sender lines = (start held : Option (List ℕ)) (pending : List ℕ) → Wrote start held (begun_text lines) pending → HasPut sender o (columns_of_lines lines) start held pending
 
+  -- what is put may be written further
+  pub put-again : (sender : State) (cs : List Column) (start start_now held held_now : Option (List ℕ)) (pending pending_now : List ℕ)
+      → HasPut sender o cs start held pending → Wrote start_now held_now (begun_octets o cs) pending_now → HasPut sender o cs start_now held_now pending_now
+  put-again sender cs start start_now held held_now pending pending_now put wrote = record {
+    sent = record {
+      history = put.sent.history;
+      stands = put.sent.stands;
+      period = put.sent.period;
+      placed = put.sent.placed;
+      debt = put.sent.debt;
+      from = put.sent.from;
+      low = put.sent.low;
+      wrote = wrote;
+    };
+    legal = put.legal;
+    least = put.least;
+  }
+
+  -- where the header and the lead were written before, they are written
+  pub waited-told : (sender : State) (seen : Seen) (mid end : Option (List ℕ)) (pending text more : List ℕ) → HasPut sender o [] seen.held_before mid pending → pending ≡ []
+      → IsLonger mid end → Wrote seen.held_before end text more → IsLonger end seen.held_after → HasWaited o seen
+  waited-told sender seen mid end pending text more put none longer told later =
+      by seen.held_before mid end seen.held_after (subst (Wrote seen.held_before mid (begun_octets o [])) none put.sent.wrote) longer told later
+    where
+      by : (before mid end after : Option (List ℕ)) → Wrote before mid (begun_octets o []) [] → IsLonger mid end → Wrote before end text more → IsLonger end after
+          → IfSome before (λ b. IfSome after (λ a. length a < length b + length (begun_octets o []) → seen.left_after ≡ seen.left_before))
+      by None mid end after w l t m = tt
+      by (Some b) None end after w l t m = absurd w.appended
+      by (Some b) (Some h) None after w l t m = absurd t.appended
+      by (Some b) (Some h) (Some e) None w l t m = tt
+      by (Some b) (Some h) (Some e) (Some a) w l t m =
+          λ few. absurd (omega (arith, few, l, m, ap length w.appended, length-append b w.written, ap length w.joined, length-append w.written []))
+
+  pub waited : (sender : State) (seen : Seen) (mid : Option (List ℕ)) (pending : List ℕ) → HasPut sender o [] seen.held_before mid pending → pending ≡ []
+      → IsLonger mid seen.held_after → HasWaited o seen
+  waited sender seen mid pending put none longer =
+      waited-told sender seen mid mid pending (begun_octets o []) pending put none (same-told mid) put.sent.wrote longer
+
   has-lines : (sender : State) (lines : List FrameLine) (cs : List Column) (start held : Option (List ℕ)) (pending : List ℕ)
       → HasPut sender o cs start held pending → columns_of_lines lines ≡ cs
       → HasLines sender lines
   has-lines sender lines cs start held pending put is start' held' pending' wrote =
       subst (λ xs. Wrote start' held' (begun_octets o xs) pending' → HasPut sender o xs start' held' pending') (sym is)
-      (λ w. record {
-        sent = record {
-          history = put.sent.history;
-          stands = put.sent.stands;
-          period = put.sent.period;
-          placed = put.sent.placed;
-          debt = put.sent.debt;
-          from = put.sent.from;
-          low = put.sent.low;
-          wrote = w;
-        };
-        legal = put.legal;
-        least = put.least;
-      }) wrote
+      (put-again sender cs start start' held held' pending pending' put) wrote
 
   module _ {P : Type 0} where
     abbrev pub SoFar : State → ReaderState P → Option (List ℕ) → Option (List ℕ) → Option (List ℕ) → Option (List ℕ) → List ℕ → Type 0
@@ -175,24 +201,26 @@ module _ (o : EncodeOptions) where
               c.octets ++ t.0,
               c.answered,
               line,
-              t.1.1,
+              new.buffer.unused,
               halted.0,
               counts (told (reading c.octets c.answered) t.0 (Ok (Some line))) t.2 ∙ length-append c.answered (line ∷ []),
               took-more seen mid c.octets t.0 c.took t.1.0,
-              t.1.2,
+              t.2.unused,
+              n.within,
               halted.1,
               written seen held_end (begun_octets o (columns_of_lines c.answered ++ halted.0)) pending_end halted.2 flushed,
             )
 
         -- its columns end early, since a write failed
-        frame-failed : WriteFailed seen → (own left : List Column) → own_columns ≡ own ++ left
+        frame-failed : WriteFailed seen → HasWaited o seen → (own left : List Column) → own_columns ≡ own ++ left
             → HasLegalGaps o.period (columns_of_lines c.answered ++ own)
             → AppendsFront seen.held_before seen.held_after (begun_octets o (columns_of_lines c.answered ++ own)) → Encoded o seen WriteFault
-        frame-failed rose own left parts legal front =
+        frame-failed rose waits own left parts legal front =
             let t = tells frame_line_at begun_text (HasLines sender) old new seen.left_before mid seen.left_after seen.held_before held pending seen.ended (Ok (Some line)) c n in (
               c.octets ++ t.0,
               c.answered ++ line ∷ [],
               rose,
+              waits,
               inl (
                 t.1.1,
                 took-more seen mid c.octets t.0 c.took t.1.0,
@@ -205,54 +233,58 @@ module _ (o : EncodeOptions) where
               ),
             )
 
-        pub encoded-frame-failed : (pending_end : List ℕ) (why : Halt) → why ≡ halt.Failed → WriteFailed seen
+        pub encoded-frame-failed : (pending_end : List ℕ) (why : Halt) → why ≡ halt.Failed → WriteFailed seen → HasWaited o seen
             → ((cs : List Column) → HasPut sender o cs seen.held_before held pending → LineHalts o cs own_columns seen.held_before seen.held_after pending_end why)
             → Encoded o seen WriteFault
-        encoded-frame-failed pending_end why is rose halts =
+        encoded-frame-failed pending_end why is rose waits halts =
             let halted = subst (LineHalts o (columns_of_lines c.answered) own_columns seen.held_before seen.held_after pending_end) is (halts (columns_of_lines c.answered) put-so-far) in
-            frame-failed rose halted.0 halted.1 halted.2 halted.3 halted.4
+            frame-failed rose waits halted.0 halted.1 halted.2 halted.3 halted.4
 
         pub encoded-tight-failed : (held_end : Option (List ℕ)) (pending_end : List ℕ) (why : Halt) → why ≡ halt.TooTight → WriteFailed seen
+            → ((text : List ℕ) → Wrote seen.held_before held_end text pending_end → HasWaited o seen)
             → ((cs : List Column) → HasPut sender o cs seen.held_before held pending → LineHalts o cs own_columns seen.held_before held_end pending_end why)
             → BreaksOffBefore held_end pending_end seen.held_after → Encoded o seen WriteFault
-        encoded-tight-failed held_end pending_end why is rose halts failed =
+        encoded-tight-failed held_end pending_end why is rose waits halts failed =
             let halted = subst (LineHalts o (columns_of_lines c.answered) own_columns seen.held_before held_end pending_end) is (halts (columns_of_lines c.answered) put-so-far) in
             let tight = halted.1 in
-            frame-failed rose halted.0 (tight.column ∷ tight.rest) tight.parts tight.legal (failed seen.held_before (begun_octets o (columns_of_lines c.answered ++ halted.0)) halted.2)
+            let text = begun_octets o (columns_of_lines c.answered ++ halted.0) in
+            frame-failed rose (waits text halted.2) halted.0 (tight.column ∷ tight.rest) tight.parts tight.legal (failed seen.held_before text halted.2)
 
       -- a write failed behind the lines
-      behind : (octets rest : List ℕ) → WriteFailed seen → TakesWhereTold seen.left_before seen.left_after octets
+      behind : (octets rest : List ℕ) → WriteFailed seen → HasWaited o seen → TakesWhereTold seen.left_before seen.left_after octets
           → Begins frame_line_at octets c.answered rest
           → AppendsFront seen.held_before seen.held_after (begun_text c.answered) → Encoded o seen WriteFault
-      behind octets rest rose took begins front =
-          (octets, c.answered, rose, inl (rest, took, begins, columns_of_lines c.answered, [], sym (append-nil (columns_of_lines c.answered)), put-so-far.legal, front))
+      behind octets rest rose waits took begins front =
+          (octets, c.answered, rose, waits, inl (rest, took, begins, columns_of_lines c.answered, [], sym (append-nil (columns_of_lines c.answered)), put-so-far.legal, front))
 
-      pub encoded-end-failed : Nexts frame_line_at old new mid seen.left_after seen.ended (Ok None) → WriteFailed seen
+      pub encoded-end-failed : Nexts frame_line_at old new mid seen.left_after seen.ended (Ok None) → WriteFailed seen → HasWaited o seen
           → ((cs : List Column) → HasPut sender o cs seen.held_before held pending → AppendsFront seen.held_before seen.held_after (sent_octets o cs)) → Encoded o seen WriteFault
-      encoded-end-failed n rose failed =
+      encoded-end-failed n rose waits failed =
           let t = tells frame_line_at begun_text (HasLines sender) old new seen.left_before mid seen.left_after seen.held_before held pending seen.ended (Ok None) c n in (
             c.octets ++ t.0,
             c.answered,
             rose,
+            waits,
             inr (took-all seen mid c.octets t.0 c.took t.1.0, t.1.1, t.1.2, put-so-far.legal, failed (columns_of_lines c.answered) put-so-far),
           )
 
-      pub encoded-fault-failed : (fault : InFault) → Nexts frame_line_at old new mid seen.left_after seen.ended (Err fault) → WriteFailed seen
+      pub encoded-fault-failed : (fault : InFault) → Nexts frame_line_at old new mid seen.left_after seen.ended (Err fault) → WriteFailed seen → HasWaited o seen
           → BreaksOffBefore held pending seen.held_after → Encoded o seen WriteFault
-      encoded-fault-failed fault n rose failed =
+      encoded-fault-failed fault n rose waits failed =
           let t = tells frame_line_at begun_text (HasLines sender) old new seen.left_before mid seen.left_after seen.held_before held pending seen.ended (Err fault) c n in
           let after = behind-fault frame_line_at (reading c.octets c.answered) t.0 mid seen.left_after seen.ended fault t.1 in
-          behind (c.octets ++ t.0) after.0 rose (takes-after seen.left_before mid seen.left_after c.octets t.0 c.took after.1) after.2
+          behind (c.octets ++ t.0) after.0 rose waits (takes-after seen.left_before mid seen.left_after c.octets t.0 c.took after.1) after.2
           (failed seen.held_before (begun_text c.answered) c.wrote)
 
     -- before the next line is read
     pub encoded-failed : (sender : State) (seen : Seen) (held : Option (List ℕ)) (pending : List ℕ) (lines : ReaderState P)
-        → (c : SoFar sender lines seen.left_before seen.left_after seen.held_before held pending) → WriteFailed seen
+        → (c : SoFar sender lines seen.left_before seen.left_after seen.held_before held pending) → WriteFailed seen → HasWaited o seen
         → BreaksOffBefore held pending seen.held_after → Encoded o seen WriteFault
-    encoded-failed sender seen held pending lines c rose failed = (
+    encoded-failed sender seen held pending lines c rose waits failed = (
       c.octets,
       c.answered,
       rose,
+      waits,
       inl (
         lines.buffer.unused,
         takes-consumed seen.left_before seen.left_after c.octets c.took,
@@ -288,7 +320,7 @@ module _ (o : EncodeOptions) where
     earlier : (outcome : Outcome) → Encoded o seen outcome → Encoded o earlier_seen outcome
     earlier Done e = (e.0, e.1, all-taken e.0 e.2, e.3, e.4, e.5, e.6)
     earlier ReadFault e = (e.0, e.1, e.2, e.3, e.4, has-begun (columns_of_lines e.1) e.5)
-    earlier WriteFault e = (e.0, e.1, omega (arith, few, e.2), broke-off e.0 e.1 e.3)
+    earlier WriteFault e = (e.0, e.1, omega (arith, few, e.2), e.3, broke-off e.0 e.1 e.4)
     earlier NoMemory e = e
     earlier (BadLine number kind) e = (e.0, e.1, e.2, is-refused e.0 e.1 kind e.3, has-begun (columns_of_lines e.1) e.4)
     earlier (TooTight frame) e = e
@@ -308,6 +340,7 @@ module _ (o : EncodeOptions) where
     [],
     [],
     rose,
+    unread seen.held_before seen.held_after,
     inl (
       [],
       subst (λ left. TakesWhereTold seen.left_before left []) (sym same) (takes-consumed seen.left_before seen.left_before [] (consumes-none seen.left_before)),
@@ -319,3 +352,8 @@ module _ (o : EncodeOptions) where
       front,
     ),
   )
+    where
+      unread : (before after : Option (List ℕ)) → IfSome before (λ b. IfSome after (λ a. length a < length b + length (begun_octets o []) → seen.left_after ≡ seen.left_before))
+      unread None after = tt
+      unread (Some b) None = tt
+      unread (Some b) (Some a) = λ few. same

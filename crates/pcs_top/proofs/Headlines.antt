@@ -26,7 +26,8 @@ use Rattle.pcs_drive.specs.Seen.{Seen, Written}
 use Rattle.pcs_drive.specs.CaptureCommand.{BeatsText, CaptureText, FromBeats, FromCapture, TookAllBeatsBy, outcome_at_end}
 use Rattle.pcs_drive.specs.declared.outcome.Outcome.{Outcome}
 use Rattle.pcs_drive.specs.declared.outcome.Outcome.TheVariants.{Done, ReadFault, WriteFault, NoMemory, BadLine, BadHeader, TooTight, Cut, NotAligned, TooLong}
-use Rattle.pcs_drive.proofs.Completing.{front, all, opens-alone, header-stays, captured}
+use Rattle.pcs_drive.proofs.Completing.{front, all, opens-alone, captured}
+use Rattle.pcs_drive.proofs.HeadersStay.{header-stays}
 use Rattle.pcs_top.specs.Decoding.{good_text, decoded, skew_limit}
 use Rattle.pcs_top.specs.EventTexts.{capture, has_alignment}
 use Rattle.pcs_top.specs.Laws.{IsSent}

@@ -1,5 +1,5 @@
 -- What `encode` answers, when, and what stands written.
-use Rattle.std.specs.Prelude.{◌≡◌, ℕ, ◌+◌, ◌^◌, ◌<◌, ◌⊎◌, List, [], ◌∷◌, ◌++◌, length, reverse, Result, Ok, Err}
+use Rattle.std.specs.Prelude.{◌≡◌, ℕ, ◌+◌, ◌^◌, ◌<◌, ◌≤◌, ◌⊎◌, List, [], ◌∷◌, ◌++◌, length, reverse, IfSome, Result, Ok, Err}
 use Rattle.mac_columns.specs.declared.column.Column.{Column}
 use Rattle.rate_match.specs.Kept.{debt, HasLegalGaps}
 use Rattle.pcs_io.specs.Octets.{AppendsFront}
@@ -27,6 +27,11 @@ pub record HasBegun (options : EncodeOptions) (seen : Seen) (columns : List Colu
   pub legal : HasLegalGaps options.period columns
   pub written : Written seen (begun_octets options columns)
 
+-- where fewer octets are written than the header and the lead have, nothing was taken
+abbrev pub HasWaited : EncodeOptions → Seen → Type 0
+HasWaited options seen = IfSome seen.held_before (λ before. IfSome seen.held_after (λ after.
+    length after < length before + length (begun_octets options []) → seen.left_after ≡ seen.left_before))
+
 -- A write failed: a front is written of what a front of the columns had begun, or of the whole transmission where the input has ended.
 abbrev pub BrokeOff : EncodeOptions → Seen → List ℕ → List FrameLine → Type 0
 BrokeOff options seen octets lines =
@@ -36,7 +41,8 @@ BrokeOff options seen octets lines =
     ⊎ (TookAll seen octets × (length octets < 2 ^ 40) × AreLines frame_line_at octets lines × HasLegalGaps options.period (columns_of_lines lines)
     × AppendsFront seen.held_before seen.held_after (sent_octets options (columns_of_lines lines)))
 
--- each answer has its own condition, of the octets taken and the lines in front of them
+-- Each answer has its own condition, of the octets taken and the lines in front of them. Behind a line that is too tight no more was taken
+-- than a buffer holds.
 abbrev pub Encoded : EncodeOptions → Seen → Outcome → Type 0
 Encoded options seen Done =
     (octets : List ℕ) × (lines : List FrameLine) × TookAll seen octets × (length octets < 2 ^ 40) × AreLines frame_line_at octets lines
@@ -45,14 +51,14 @@ Encoded options seen ReadFault =
     (octets : List ℕ) × (lines : List FrameLine) × ReadFailed seen × Took seen octets × EndOpen frame_line_at octets lines
     × HasBegun options seen (columns_of_lines lines)
 Encoded options seen WriteFault =
-    (octets : List ℕ) × (lines : List FrameLine) × WriteFailed seen × BrokeOff options seen octets lines
+    (octets : List ℕ) × (lines : List FrameLine) × WriteFailed seen × HasWaited options seen × BrokeOff options seen octets lines
 Encoded options seen NoMemory = ⊥
 Encoded options seen (BadLine number kind) =
     (octets : List ℕ) × (lines : List FrameLine) × (number ≡ length lines + 1) × IsRefused frame_line_at seen octets lines kind
     × HasBegun options seen (columns_of_lines lines)
 Encoded options seen (TooTight frame) =
     (octets : List ℕ) × (lines : List FrameLine) × (line : FrameLine) × (rest : List ℕ) × (own : List Column) × (frame ≡ length lines + 1)
-    × Took seen octets × Begins frame_line_at octets (lines ++ line ∷ []) rest
+    × Took seen octets × Begins frame_line_at octets (lines ++ line ∷ []) rest × (length rest ≤ 65536)
     × IsTooTight options.period (columns_of_lines lines) own (columns_of_line line)
     × Written seen (begun_octets options (columns_of_lines lines ++ own))
 Encoded options seen TooLong =

@@ -25,7 +25,8 @@ pub use blocks::blocks_opened;
 pub use decode::decode_opened;
 pub use encode::encode_opened;
 pub use laws::{
-    captures_are_migrated, columns_fill_pairs, headers_are_kept, unblock_undoes_blocks,
+    captures_are_migrated, columns_fill_pairs, commands_decide, headers_are_kept,
+    unblock_undoes_blocks,
 };
 pub use pcs_words::Cause;
 pub use status::Status;
