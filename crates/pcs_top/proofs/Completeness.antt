@@ -31,6 +31,9 @@ use Rattle.pcs_drive.proofs.HeadersStay.{header-stays, levels-stay}
 use Rattle.pcs_late.specs.Kr.{kr_text}
 use Rattle.pcs_late.specs.Multiplexing.{multiplexed}
 use Rattle.pcs_late.specs.Demultiplexing.{demultiplexed}
+use Rattle.pcs_late.specs.declared.pcap_outcome.PcapOutcome.{PcapOutcome}
+use Rattle.pcs_late.specs.declared.pcap_outcome.PcapOutcome.TheVariants.{Usual}
+use Rattle.pcs_late.proofs.WholeFiles.{pcap-complete}
 use Rattle.pcs_top.specs.Notes.{Heard, Noted}
 use Rattle.pcs_top.specs.Texts.{block_text, unblock_text}
 use Rattle.pcs_top.specs.LineColumns.{columns_of_line, columns_of_lines}
@@ -41,7 +44,7 @@ use Rattle.pcs_top.specs.ColumnTexts.{columned}
 use Rattle.pcs_top.specs.Migrating.{migrated}
 use Rattle.pcs_top.specs.Impairing.{impairing}
 use Rattle.pcs_top.specs.Trying.{Tried}
-use Rattle.pcs_top.specs.Statuses.{ByOutcome, status_of}
+use Rattle.pcs_top.specs.Statuses.{ByOutcome, status_of, status_of_pcap}
 use Rattle.pcs_top.specs.Top.{Answers, Performs, Runs, IsWholeCapture, IsWholeLevels, InGrammar, NothingFailed, IsComplete}
 use Rattle.pcs_top.specs.declared.status.Status.{Status}
 use Rattle.pcs_top.specs.declared.status.Status.TheVariants as answer
@@ -174,6 +177,11 @@ by-outcome : (status : Status) (outcome : Outcome) → status ≡ status_of outc
 by-outcome status outcome is (inl done) = inl (is ∙ ap status_of done)
 by-outcome status outcome is (inr none) = inr (is ∙ ap status_of none)
 
+by-pcap : (status : Status) (outcome : PcapOutcome) → status ≡ status_of_pcap outcome → (outcome ≡ Usual Done) ⊎ (outcome ≡ Usual NoMemory)
+    → (status ≡ answer.Done) ⊎ (status ≡ answer.NoMemory)
+by-pcap status outcome is (inl done) = inl (is ∙ ap status_of_pcap done)
+by-pcap status outcome is (inr none) = inr (is ∙ ap status_of_pcap none)
+
 -- the same of a command on lines
 by-lines : (Table : Seen → Outcome → Type 0) (seen : Seen) (status : Status) → ByOutcome (OrNoMemory Table seen) status
     → ((outcome : Outcome) → Table seen outcome → outcome ≡ Done) → (status ≡ answer.Done) ⊎ (status ≡ answer.NoMemory)
@@ -238,7 +246,8 @@ answers watchers (Ok (command.Demux options)) seen heard status octets rest b a 
     by-levels options.phase seen octets rest status b a within short nothing.reads nothing.writes c
 answers watchers (Ok command.Kr) seen heard status octets rest b a within short nothing c =
     by-lines (Converted symbol_line_at kr_text) seen status c (λ outcome d. converted symbol_line_at symbol_grammar kr_text seen octets rest within.0 outcome b a within.1 short nothing.reads nothing.writes d)
-answers watchers (Ok (command.Pcap options)) seen heard status octets rest b a within short nothing c = absurd within
+answers watchers (Ok (command.Pcap options)) seen heard status octets rest b a within short nothing c =
+    by-pcap status c.0 c.1 (pcap-complete seen octets rest b a short nothing.reads nothing.writes options.gap options.short options.write c.0 within c.2)
 
 pub complete : (watchers : List Watched) (words : Result Command Refusal) (seen : Seen) (heard : Heard) (status : Status)
     → Runs watchers words seen heard status → IsComplete watchers words seen heard status

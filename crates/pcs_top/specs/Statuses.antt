@@ -2,8 +2,10 @@
 use Rattle.std.specs.Prelude.{◌≡◌, ℕ}
 use Rattle.pcs_drive.specs.declared.outcome.Outcome.{Outcome}
 use Rattle.pcs_drive.specs.declared.outcome.Outcome.TheVariants as outcome
+use Rattle.pcs_late.specs.declared.pcap_outcome.PcapOutcome.{PcapOutcome}
+use Rattle.pcs_late.specs.declared.pcap_outcome.PcapOutcome.TheVariants.{Usual, BadRecord as Refused}
 use Rattle.pcs_top.specs.declared.status.Status.{Status}
-use Rattle.pcs_top.specs.declared.status.Status.TheVariants.{Done, Usage, ReadFault, WriteFault, NoMemory, BadLine, BadHeader, TooTight, Cut, NotAligned, TooLong, NotesFault}
+use Rattle.pcs_top.specs.declared.status.Status.TheVariants.{Done, Usage, ReadFault, WriteFault, NoMemory, BadLine, BadHeader, TooTight, Cut, NotAligned, TooLong, NotesFault, BadRecord}
 
 -- the exit status
 abbrev pub number_of : Status → ℕ
@@ -19,6 +21,7 @@ number_of (Cut rest) = 9
 number_of NotAligned = 10
 number_of TooLong = 11
 number_of (NotesFault instead) = 12
+number_of (BadRecord number kind) = 13
 
 -- the status that a command's outcome brings
 abbrev pub status_of : Outcome → Status
@@ -36,3 +39,11 @@ status_of outcome.TooLong = TooLong
 -- the status is that of an outcome for which this holds
 abbrev pub ByOutcome : (Outcome → Type 0) → Status → Type 0
 ByOutcome Answers status = (outcome : Outcome) × (status ≡ status_of outcome) × Answers outcome
+
+-- and the one that an outcome of `pcap` brings
+abbrev pub status_of_pcap : PcapOutcome → Status
+status_of_pcap (Usual outcome) = status_of outcome
+status_of_pcap (Refused number kind) = BadRecord number kind
+
+abbrev pub ByPcapOutcome : (PcapOutcome → Type 0) → Status → Type 0
+ByPcapOutcome Answers status = (outcome : PcapOutcome) × (status ≡ status_of_pcap outcome) × Answers outcome

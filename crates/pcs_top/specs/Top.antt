@@ -15,11 +15,11 @@ use Rattle.pcs_words.specs.declared.command.Command.{Command}
 use Rattle.pcs_words.specs.declared.command.Command.TheVariants as command
 use Rattle.pcs_words.specs.declared.refusal.Refusal.{Refusal}
 use Rattle.pcs_words.specs.declared.refusal.Refusal.TheVariants.{Memory, Usage as Refused}
-use Rattle.pcs_words.specs.declared.refusal.Cause.TheVariants.{Words}
 use Rattle.pcs_drive.specs.Seen.{Seen, Untouched, ReadFailed, WriteFailed}
 use Rattle.pcs_drive.specs.LineCommand.{Converted, OrNoMemory}
 use Rattle.pcs_drive.specs.CaptureCommand.{CaptureText, FromCapture, FromLevels}
 use Rattle.pcs_late.specs.Kr.{kr_text}
+use Rattle.pcs_late.specs.PcapCommand.{PcapAnswers, IsPcapInput}
 use Rattle.pcs_late.specs.Multiplexing.{multiplexed}
 use Rattle.pcs_late.specs.Demultiplexing.{demultiplexed}
 use Rattle.pcs_top.specs.Notes.{Heard, Noted}
@@ -32,11 +32,11 @@ use Rattle.pcs_top.specs.ColumnTexts.{columned}
 use Rattle.pcs_top.specs.Migrating.{migrated}
 use Rattle.pcs_top.specs.Impairing.{impairing}
 use Rattle.pcs_top.specs.Trying.{Tried}
-use Rattle.pcs_top.specs.Statuses.{ByOutcome}
+use Rattle.pcs_top.specs.Statuses.{ByOutcome, ByPcapOutcome}
 use Rattle.pcs_top.specs.declared.status.Status.{Status}
 use Rattle.pcs_top.specs.declared.status.Status.TheVariants.{Done, Usage, NoMemory}
 
--- `watchers` is what is seen of the watchers that the call was given. Words that are refused do nothing, nor do those of a command that isn't built yet; else the command answers.
+-- `watchers` is what is seen of the watchers that the call was given. Words that are refused do nothing; else the command answers.
 abbrev pub Answers : List Watched → Result Command Refusal → Seen → Status → Type 0
 Answers watchers (Err Memory) seen status = (status ≡ NoMemory) × Untouched seen
 Answers watchers (Err (Refused cause)) seen status = (status ≡ Usage cause) × Untouched seen
@@ -52,7 +52,7 @@ Answers watchers (Ok (command.Trial options)) seen status = ByOutcome (Tried opt
 Answers watchers (Ok (command.Migrate options)) seen status = ByOutcome (FromCapture (migrated options.skew) seen) status
 Answers watchers (Ok (command.Mux options)) seen status = ByOutcome (FromCapture (multiplexed options.precode) seen) status
 Answers watchers (Ok (command.Demux options)) seen status = ByOutcome (FromLevels (demultiplexed options.phase) seen) status
-Answers watchers (Ok other) seen status = (status ≡ Usage Words) × Untouched seen
+Answers watchers (Ok (command.Pcap options)) seen status = ByPcapOutcome (PcapAnswers options.gap options.short options.write seen) status
 
 -- the words are performed, or there was no memory to read them
 abbrev pub Performs : List Watched → Result Command Refusal → Seen → Status → Type 0
@@ -86,6 +86,7 @@ InGrammar watchers (Ok (command.Trial options)) octets = ⊤
 InGrammar watchers (Ok (command.Migrate options)) octets = IsWholeCapture (migrated options.skew) octets
 InGrammar watchers (Ok (command.Mux options)) octets = IsWholeCapture (multiplexed options.precode) octets
 InGrammar watchers (Ok (command.Demux options)) octets = IsWholeLevels octets
+InGrammar watchers (Ok (command.Pcap options)) octets = IsPcapInput options.short options.write octets
 InGrammar watchers words octets = ⊥
 
 -- no read and no write failed

@@ -2,8 +2,10 @@ ghost use Rattle.std.specs.Prelude.{◌≡◌};
 ghost use Rattle.pcs_top.specs.Statuses.{number_of};
 
 use crate::Cause;
+use pcap_frames::RecordKind;
 use pcs_drive::Outcome;
 use pcs_io::{BadHeader, Kind};
+use pcs_late::PcapOutcome;
 
 /// How a run ended.
 #[derive(Clone, Copy, Debug, PartialEq, Eq)]
@@ -29,6 +31,8 @@ pub enum Status {
     /// The line on the notes couldn't be written whole. The number is that of the status that
     /// would have stood.
     NotesFault { instead: u8 },
+    /// The record of this number of a pcap file, counted from 1, is refused.
+    BadRecord { number: u64, kind: RecordKind },
 }
 
 impl Status {
@@ -49,6 +53,7 @@ impl Status {
             Status::NotAligned => 10,
             Status::TooLong => 11,
             Status::NotesFault { .. } => 12,
+            Status::BadRecord { .. } => 13,
         }
     }
 }
@@ -70,6 +75,19 @@ impl From<Outcome> for Status {
             Outcome::Cut { rest } => Status::Cut { rest },
             Outcome::NotAligned => Status::NotAligned,
             Outcome::TooLong => Status::TooLong,
+        }
+    }
+}
+
+impl From<PcapOutcome> for Status {
+    ghost use Rattle.pcs_top.specs.Statuses.{status_of_pcap};
+
+    ghost from_gives = { λ outcome status. status ≡ status_of_pcap outcome };
+
+    fn from(outcome: PcapOutcome) -> Status {
+        match outcome {
+            PcapOutcome::Usual(outcome) => Status::from(outcome),
+            PcapOutcome::BadRecord { number, kind } => Status::BadRecord { number, kind },
         }
     }
 }
