@@ -74,6 +74,7 @@ lines=examples/frames.txt
 "$program" blocks < "$lines" > "$work/block_lines"
 "$program" encode --period 1 --lead 3 < "$lines" > "$work/capture"
 "$program" mux < "$work/capture" > "$work/levels"
+"$program" decode < "$work/capture" > "$work/frames"
 { printf '000%.0s' $(seq 513); echo 001; } > "$work/symbols"
 try "$lines" blocks
 try "$work/block_lines" unblock
@@ -82,6 +83,7 @@ try "$work/capture" decode
 try "$work/capture" report
 try "$work/capture" columns
 try "$work/capture" impair order=fedcba9876543210 skew=0:300 noise=1:40
+try /dev/null trial 7 3
 try "$work/capture" migrate
 try "$work/capture" mux
 try "$work/levels" demux
