@@ -1,7 +1,7 @@
-// Headers of captures: each field wrong, and each place where the input may end.
-use crate::runs::{Ran, run_over};
+// Headers of captures, each field wrong.
 use block66::{Block, decode};
 use mac_columns::Column;
+use memory_runs::{capture_of_a_frame, run_over};
 use pcs_drive::open_capture;
 use pcs_io::{BadHeader, MemSink, MemSource};
 use pcs_receive::{Receiver, Want};
@@ -44,9 +44,9 @@ const WRONG_2: [Wrong; 9] = [
 ];
 
 // Whether the input is refused there, with nothing written.
-fn is_refused(alloc: Global, input: &[u8], place: u8, cut: bool) -> Result<bool, AllocError> {
-    let ran: Ran = run_over(alloc, "decode", input, 5)?;
-    let status = Status::BadHeader(BadHeader { place, cut });
+fn is_refused(alloc: Global, input: &[u8], place: u8) -> Result<bool, AllocError> {
+    let ran = run_over(alloc, "decode", input, 5)?;
+    let status = Status::BadHeader(BadHeader { place, cut: false });
     Ok(ran.status == status && ran.sink.held().is_empty())
 }
 
@@ -58,28 +58,14 @@ fn fields_are_wrong(rt: HostRuntime) -> Result<(), Fail> {
         if let Some(field) = header.get_mut(*at) {
             *field = *octet;
         }
-        assert!(rt; is_refused(alloc, &header, *place, false)?);
+        assert!(rt; is_refused(alloc, &header, *place)?);
     }
     for (at, octet, place) in &WRONG_2 {
         let mut header = *VERSION_2;
         if let Some(field) = header.get_mut(*at) {
             *field = *octet;
         }
-        assert!(rt; is_refused(alloc, &header, *place, false)?);
-    }
-    Ok(())
-}
-
-#[test]
-fn headers_are_cut(rt: HostRuntime) -> Result<(), Fail> {
-    let alloc = rt.alloc();
-    for count in 0..32u8 {
-        let front = &VERSION_2[..usize::from(count)];
-        assert!(rt; is_refused(alloc, front, count, true)?);
-        if count < 16 {
-            let front = &VERSION_1[..usize::from(count)];
-            assert!(rt; is_refused(alloc, front, count, true)?);
-        }
+        assert!(rt; is_refused(alloc, &header, *place)?);
     }
     Ok(())
 }
@@ -88,14 +74,7 @@ fn headers_are_cut(rt: HostRuntime) -> Result<(), Fail> {
 #[test]
 fn a_capture_is_decoded_opened(rt: HostRuntime) -> Result<(), Fail> {
     let alloc = rt.alloc();
-    let sent = run_over(
-        alloc,
-        "encode --period 1 --lead 2 --tail 1",
-        b"1 010203\n",
-        65536,
-    )?;
-    let octets = sent.sink.held().to_vec(alloc)?;
-    let mut source = MemSource::new(octets, 1024, Vec::new(alloc));
+    let mut source = MemSource::new(capture_of_a_frame(alloc, 2)?, 1024, Vec::new(alloc));
     let mut sink = MemSink::new(alloc, 64, 7, Vec::new(alloc))?;
     let mut receiver = Receiver::open(alloc, 1, 339, Want::Frames)?;
     match open_capture(alloc, &mut source) {

@@ -1,5 +1,5 @@
 // Symbol lines to codewords of RS(528,514).
-use crate::runs::{input_of, run_over};
+use memory_runs::{input_of, run_over};
 use std::alloc::{AllocError, Global};
 use std::test::Fail;
 

@@ -1,5 +1,5 @@
 // Captures to levels, and levels to captures.
-use crate::runs::{digest_of, run_over};
+use memory_runs::{capture_of_a_frame, digest_of, run_over, written};
 use pcs_io::{BadHeader, BeatIn, Beats, CapFault, LevelsHeader, MemSource};
 use pcs_top::Status;
 use std::alloc::{AllocError, Global};
@@ -30,12 +30,11 @@ const ROWS: [Row; 2] = [
 #[test]
 fn rows_of_levels(rt: HostRuntime) -> Result<(), Fail> {
     let alloc = rt.alloc();
-    let sending = "encode --period 1 --lead 2 --tail 1";
-    let capture = run_over(alloc, sending, b"1 010203\n", 65536)?;
+    let capture = capture_of_a_frame(alloc, 2)?;
     for row in &ROWS {
         let beginning = hex::decode(alloc, row.beginning)?;
         for piece in [1, 65536] {
-            let ran = run_over(alloc, row.command, capture.sink.held(), piece)?;
+            let ran = run_over(alloc, row.command, &capture, piece)?;
             let written = ran.sink.held();
             assert_eq!(rt; ran.status, Status::Done);
             assert_eq!(rt; written.len(), 5472);
@@ -126,9 +125,9 @@ fn comes_back(alloc: Global, command: &str, capture: &[u8]) -> Result<bool, Allo
 fn captures_come_back(rt: HostRuntime) -> Result<(), Fail> {
     let alloc = rt.alloc();
     let sending = "encode --form 2 --period 1 --lead 2 --tail 1";
-    let sent = run_over(alloc, sending, b"1 010203\n", 65536)?;
+    let sent = written(alloc, sending, b"1 010203\n")?;
     for command in ["mux", "mux --precode"] {
-        assert!(rt; comes_back(alloc, command, sent.sink.held())?);
+        assert!(rt; comes_back(alloc, command, &sent)?);
         for beats in 0..12 {
             assert!(rt; comes_back(alloc, command, &noise(alloc, beats)?)?);
         }
@@ -154,13 +153,15 @@ pair 2 0 0 0,0,0,0,0,0,0,0,0,0,0,0,0,0,0,0
 #[test]
 fn late_lanes_align(rt: HostRuntime) -> Result<(), Fail> {
     let alloc = rt.alloc();
-    let sending = "encode --period 1 --lead 3 --tail 1";
-    let sent = run_over(alloc, sending, b"1 010203\n", 65536)?;
-    let levels = run_over(alloc, "mux", sent.sink.held(), 65536)?;
-    let late = run_over(alloc, "demux --phase 255", levels.sink.held(), 65536)?;
-    let report = run_over(alloc, "report", late.sink.held(), 65536)?;
-    let decoded = run_over(alloc, "decode", late.sink.held(), 65536)?;
-    assert_eq!(rt; report.sink.held(), LATE.as_bytes());
-    assert_eq!(rt; decoded.sink.held(), b"010203\n".as_slice());
+    let levels = written(alloc, "mux", &capture_of_a_frame(alloc, 3)?)?;
+    let late = written(alloc, "demux --phase 255", &levels)?;
+    assert_eq!(rt;
+        written(alloc, "report", &late)?.as_slice(),
+        LATE.as_bytes()
+    );
+    assert_eq!(rt;
+        written(alloc, "decode", &late)?.as_slice(),
+        b"010203\n".as_slice()
+    );
     Ok(())
 }

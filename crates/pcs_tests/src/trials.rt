@@ -1,6 +1,5 @@
 // Trials and their summaries, which are those of another program, written apart from this one.
-use crate::runs::{run_on, run_over};
-use pcs_io::{MemSink, MemSource};
+use memory_runs::run_over;
 use std::test::Fail;
 
 // A trial of no frame, and of one.
@@ -24,17 +23,5 @@ fn trials_come_back(rt: HostRuntime) -> Result<(), Fail> {
         assert_eq!(rt; ran.sink.held(), *text);
         assert_eq!(rt; ran.notes.held(), b"".as_slice());
     }
-    Ok(())
-}
-
-#[test]
-fn a_full_sink_ends_a_trial(rt: HostRuntime) -> Result<(), Fail> {
-    let alloc = rt.alloc();
-    let source = MemSource::new(Vec::new(alloc), 1, Vec::new(alloc));
-    let sink = MemSink::new(alloc, 9, 4, Vec::new(alloc))?;
-    let notes = MemSink::new(alloc, 64, 7, Vec::new(alloc))?;
-    let ran = run_on(alloc, "trial 7 0", source, sink, notes)?;
-    assert_eq!(rt; ran.status.number(), 4);
-    assert_eq!(rt; ran.sink.held(), b"frames 0\n".as_slice());
     Ok(())
 }

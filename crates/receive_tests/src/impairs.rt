@@ -1,9 +1,7 @@
 // Captures that are damaged, and what is read of them. The lengths and digests are those of another
 // program, written apart from this one.
-use crate::runs::{digest_of, run_over, words_of};
+use memory_runs::{capture_of_a_frame, digest_of, run_on, run_over};
 use pcs_io::{MemSink, MemSource};
-use pcs_top::run;
-use std::alloc::{AllocError, Global};
 use std::test::Fail;
 
 const FRAME: &'static [u8] = b"010203\n";
@@ -12,7 +10,7 @@ const FRAME: &'static [u8] = b"010203\n";
 // their SHA-256, and then the report, the frames and the number of the status of both.
 #[derive(Drop)]
 struct Row {
-    lead: &'static str,
+    lead: usize,
     items: &'static str,
     length: usize,
     digest: &'static str,
@@ -23,7 +21,7 @@ struct Row {
 
 const ROWS: [Row; 9] = [
     Row {
-        lead: "2",
+        lead: 2,
         items: "order=fedcba9876543210",
         length: 5456,
         digest: "4a072ab48ba984d4c9df6d2b57cbcc5b24612af061587db67e88e027778044c2",
@@ -38,7 +36,7 @@ pair 2 0 0 0,0,0,0,0,0,0,0,0,0,0,0,0,0,0,0
         number: 0,
     },
     Row {
-        lead: "2",
+        lead: 2,
         items: "skew=0:339",
         length: 6144,
         digest: "86e13249bc881313d31d78e9d803e6c80d9ed1981802a5d984f421982dff0ec4",
@@ -53,7 +51,7 @@ pair 2 0 0 0,0,0,0,0,0,0,0,0,0,0,0,0,0,0,0
         number: 0,
     },
     Row {
-        lead: "2",
+        lead: 2,
         items: "skew=0:340",
         length: 6144,
         digest: "349d1d14b9c7612b11ccf344f48d9529fd716f93c98fa573c65e8d70b8a2ba0d",
@@ -62,7 +60,7 @@ pair 2 0 0 0,0,0,0,0,0,0,0,0,0,0,0,0,0,0,0
         number: 10,
     },
     Row {
-        lead: "2",
+        lead: 2,
         items: "burst=0:1500:300",
         length: 5456,
         digest: "9bbd87798598e0a1d3759863c2fac26fac4f9c4156cd1389e9a8ab33eab3cac3",
@@ -77,7 +75,7 @@ pair 2 0 0 0,0,0,0,0,0,0,0,0,0,0,0,0,0,0,0
         number: 0,
     },
     Row {
-        lead: "2",
+        lead: 2,
         items: "burst=0:1500:310",
         length: 5456,
         digest: "4bdfa1a05796b8027da4e5017039dca134451a1069de9fe8259659866846a35d",
@@ -92,7 +90,7 @@ pair 2 0 0 0,0,0,0,0,0,0,0,0,0,0,0,0,0,0,0
     },
     // Three nibbles of a marker differ, and then four.
     Row {
-        lead: "3",
+        lead: 3,
         items: "flip=0:0 flip=0:4 flip=0:8",
         length: 6816,
         digest: "b734e8a72b6b41d3d7fb948b707833077723d7461376990cf50f3209c6028891",
@@ -108,7 +106,7 @@ pair 3 0 0 0,0,0,0,0,0,0,0,0,0,0,0,0,0,0,0
         number: 0,
     },
     Row {
-        lead: "3",
+        lead: 3,
         items: "flip=0:0 flip=0:4 flip=0:8 flip=0:12",
         length: 6816,
         digest: "5b583941ace891295d3694b92d3648b8e7a9eeea2e05f7fb1e9df440007570c5",
@@ -123,7 +121,7 @@ pair 2 0 0 0,0,0,0,0,0,0,0,0,0,0,0,0,0,0,0
         number: 0,
     },
     Row {
-        lead: "8",
+        lead: 8,
         items: "burst=0:1500:310 burst=0:2180:310 burst=0:2860:310",
         length: 13616,
         digest: "2adcbf99d216777c297419696ca0601880d980b945e128537a73a0eb04d6efa2",
@@ -145,7 +143,7 @@ pair 3 0 0 0,0,0,0,0,0,0,0,0,0,0,0,0,0,0,0
         number: 0,
     },
     Row {
-        lead: "2",
+        lead: 2,
         items: "order=0023456789abcdef",
         length: 5456,
         digest: "1c08b774ed140f6c8dc8e87e2dbcffa4dad6fcdd078d29efad27ca89439ed686",
@@ -159,7 +157,7 @@ pair 3 0 0 0,0,0,0,0,0,0,0,0,0,0,0,0,0,0,0
 fn rows_of_damage(rt: HostRuntime) -> Result<(), Fail> {
     let alloc = rt.alloc();
     for row in &ROWS {
-        let capture = capture_of(alloc, row.lead)?;
+        let capture = capture_of_a_frame(alloc, row.lead)?;
         let words = format!(in alloc; "impair {}", row.items)?;
         for piece in [1, 65536] {
             let ran = run_over(alloc, words.as_str(), &capture, piece)?;
@@ -198,7 +196,7 @@ const WORDS: [(&'static str, &'static [u8]); 7] = [
 #[test]
 fn words_are_refused(rt: HostRuntime) -> Result<(), Fail> {
     let alloc = rt.alloc();
-    let capture = capture_of(alloc, "2")?;
+    let capture = capture_of_a_frame(alloc, 2)?;
     for (words, note) in &WORDS {
         let ran = run_over(alloc, words, &capture, 65536)?;
         assert_eq!(rt; ran.status.number(), 2);
@@ -273,31 +271,17 @@ const BROKEN: [Broken; 4] = [
 fn faults_end_the_damage(rt: HostRuntime) -> Result<(), Fail> {
     let alloc = rt.alloc();
     for row in &BROKEN {
-        let mut capture = capture_of(alloc, "2")?;
+        let mut capture = capture_of_a_frame(alloc, 2)?;
         capture.truncate(row.given);
-        let mut source = MemSource::new(capture, 1024, row.failing_reads.to_vec(alloc)?);
-        let mut sink = MemSink::new(alloc, row.room, 7, Vec::new(alloc))?;
-        let mut notes = MemSink::new(alloc, 64, 7, Vec::new(alloc))?;
-        let words = words_of(alloc, format!(in alloc; "impair {}", row.items)?.as_str())?;
-        let status = run(
-            alloc,
-            words,
-            &mut source,
-            &mut sink,
-            &mut notes,
-            Vec::new(alloc),
-        );
-        let written = sink.held();
-        assert_eq!(rt; status.number(), row.number);
+        let source = MemSource::new(capture, 1024, row.failing_reads.to_vec(alloc)?);
+        let sink = MemSink::new(alloc, row.room, 7, Vec::new(alloc))?;
+        let notes = MemSink::new(alloc, 64, 7, Vec::new(alloc))?;
+        let words = format!(in alloc; "impair {}", row.items)?;
+        let ran = run_on(alloc, words.as_str(), source, sink, notes)?;
+        let written = ran.sink.held();
+        assert_eq!(rt; ran.status.number(), row.number);
         assert_eq!(rt; written.len(), row.length);
         assert_eq!(rt; digest_of(alloc, written)?.as_str(), row.digest);
     }
     Ok(())
-}
-
-// The capture of a frame of three octets behind so many periods of idles.
-fn capture_of(alloc: Global, lead: &str) -> Result<Vec<u8>, AllocError> {
-    let words = format!(in alloc; "encode --period 1 --lead {lead} --tail 1")?;
-    let ran = run_over(alloc, words.as_str(), b"1 010203\n", 65536)?;
-    ran.sink.held().to_vec(alloc)
 }

@@ -2,8 +2,7 @@
 ghost use Rattle.std.specs.Prelude.{◌≡◌, ◌<◌, ◌+◌, ◌^◌};
 ghost use Rattle.pcs_receive.specs.State.{IsDrained};
 
-use crate::damage::skewed;
-use crate::runs::{Ran, run_on, run_over};
+use memory_runs::{Ran, capture_of_a_frame, run_on, skewed};
 use pcs_io::{MemSink, MemSource};
 use pcs_receive::{Receiver, Want};
 use pcs_top::Status;
@@ -11,17 +10,6 @@ use std::alloc::{AllocError, Global};
 use std::test::Fail;
 
 const FRAME: &'static [u8] = b"010203\n";
-
-// The capture of one frame between idles, with a period of 1.
-fn capture_of_a_frame(alloc: Global) -> Result<Vec<u8>, AllocError> {
-    let ran: Ran = run_over(
-        alloc,
-        "encode --period 1 --lead 2 --tail 1",
-        b"1 010203\n",
-        65536,
-    )?;
-    ran.sink.held().to_vec(alloc)
-}
 
 // `decode` of an input by reads of 1024 octets, some of which fail, and of whose writes some fail.
 fn decode_failing(
@@ -42,12 +30,12 @@ fn decode_failing(
 fn reads_and_writes_fail(rt: HostRuntime) -> Result<(), Fail> {
     let alloc = rt.alloc();
     for call in 1..8u64 {
-        let ran = decode_failing(alloc, capture_of_a_frame(alloc)?, &[call], &[], &[])?;
+        let ran = decode_failing(alloc, capture_of_a_frame(alloc, 2)?, &[call], &[], &[])?;
         let written = if call < 5 { b"".as_slice() } else { FRAME };
         assert!(rt; ran.status == Status::ReadFault);
         assert_eq!(rt; ran.sink.held(), written);
     }
-    let ran = decode_failing(alloc, capture_of_a_frame(alloc)?, &[], &[1], &[])?;
+    let ran = decode_failing(alloc, capture_of_a_frame(alloc, 2)?, &[], &[1], &[])?;
     assert!(rt; ran.status == Status::WriteFault);
     assert!(rt; ran.sink.held().is_empty());
     let ran = decode_failing(alloc, Vec::new(alloc), &[], &[], &[1])?;
@@ -86,7 +74,7 @@ fn most_held(receiver: &mut Receiver, capture: &[u8]) -> u64
 #[test]
 fn few_bits_are_held(rt: HostRuntime) -> Result<(), Fail> {
     let alloc = rt.alloc();
-    let capture = capture_of_a_frame(alloc)?;
+    let capture = capture_of_a_frame(alloc, 2)?;
     let late = skewed(alloc, &capture, 339)?;
     let mut receiver = Receiver::open(alloc, 1, 339, Want::Frames)?;
     let beats = late.get(16..).unwrap_or(&[]);

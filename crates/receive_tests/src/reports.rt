@@ -1,9 +1,12 @@
 // Captures to reports. The expected lines are those of another program, written apart from this one.
-use crate::damage::{Burst, invert, skewed, turned_round};
-use crate::runs::{Ran, run_over, words_of};
+ghost use Rattle.std.specs.Prelude.{◌≤◌};
+
+use memory_runs::{
+    Burst, Ran, capture_of_a_frame, invert, run_over, run_watched, run_with, skewed, turned_round,
+    written,
+};
 use pcs_io::{MemSink, MemSource};
-use pcs_top::run;
-use pcs_watch::{Clean, Lanes, Totals, Until, Watcher, Worst};
+use pcs_watch::{Clean, Totals, Until, Watcher};
 use std::alloc::{AllocError, Global};
 use std::test::Fail;
 
@@ -42,21 +45,10 @@ pair 2 0 0 0,0,0,0,0,0,0,0,0,0,0,0,0,0,0,0
 tally totals 3 0 2
 ";
 
-// The capture of one frame of three octets.
-fn capture(alloc: Global) -> Result<Vec<u8>, AllocError> {
-    let ran = run_over(
-        alloc,
-        "encode --period 1 --lead 2 --tail 1",
-        b"1 010203\n",
-        65536,
-    )?;
-    ran.sink.held().to_vec(alloc)
-}
-
 #[test]
 fn without_watchers(rt: HostRuntime) -> Result<(), Fail> {
     let alloc = rt.alloc();
-    let capture = capture(alloc)?;
+    let capture = capture_of_a_frame(alloc, 2)?;
     let ran = run_over(alloc, "report", &capture, 7)?;
     assert_eq!(rt; ran.status.number(), 0);
     assert_eq!(rt; ran.sink.held(), GOOD.as_bytes());
@@ -71,41 +63,66 @@ fn without_watchers(rt: HostRuntime) -> Result<(), Fail> {
     Ok(())
 }
 
+// The report of a capture, with these watchers, by reads of so many octets.
+fn report_with(
+    alloc: Global,
+    capture: Vec<u8>,
+    piece: usize,
+    watchers: Vec<Box<dyn Watcher>>,
+) -> Result<Ran, AllocError>
+    requires { 1 ≤ piece }
+{
+    let source = MemSource::new(capture, piece, Vec::new(alloc));
+    let sink = MemSink::new(alloc, 65536, 64, Vec::new(alloc))?;
+    let notes = MemSink::new(alloc, 64, 7, Vec::new(alloc))?;
+    run_with(alloc, "report", source, sink, notes, watchers)
+}
+
+// The report of a capture, with the four watchers.
+fn report_of(alloc: Global, capture: Vec<u8>) -> Result<Ran, AllocError> {
+    let source = MemSource::new(capture, 1024, Vec::new(alloc));
+    let sink = MemSink::new(alloc, 65536, 64, Vec::new(alloc))?;
+    let notes = MemSink::new(alloc, 64, 7, Vec::new(alloc))?;
+    run_watched(alloc, "report", source, sink, notes)
+}
+
 #[test]
 fn totals_twice(rt: HostRuntime) -> Result<(), Fail> {
     let alloc = rt.alloc();
     let mut watchers: Vec<Box<dyn Watcher>> = Vec::new(alloc);
     watchers.push(Box::new(alloc, Totals::new())?)?;
     watchers.push(Box::new(alloc, Totals::new())?)?;
-    let mut source = MemSource::new(capture(alloc)?, 16, Vec::new(alloc));
-    let mut sink = MemSink::new(alloc, 65536, 5, Vec::new(alloc))?;
-    let mut notes = MemSink::new(alloc, 64, 7, Vec::new(alloc))?;
-    let words = words_of(alloc, "report")?;
-    let status = run(alloc, words, &mut source, &mut sink, &mut notes, watchers);
+    let ran = report_with(alloc, capture_of_a_frame(alloc, 2)?, 16, watchers)?;
     let mut expected = GOOD.as_bytes().to_vec(alloc)?;
     expected.extend_from_slice(b"tally totals 3 0 0\ntally totals 3 0 0\n")?;
-    assert_eq!(rt; status.number(), 0);
-    assert_eq!(rt; sink.held(), expected.as_slice());
+    assert_eq!(rt; ran.status.number(), 0);
+    assert_eq!(rt; ran.sink.held(), expected.as_slice());
     Ok(())
 }
 
 // One that leaves has no line.
 #[test]
-fn until_and_clean(rt: HostRuntime) -> Result<(), Fail> {
+fn until_leaves(rt: HostRuntime) -> Result<(), Fail> {
     let alloc = rt.alloc();
     let mut watchers: Vec<Box<dyn Watcher>> = Vec::new(alloc);
     watchers.push(Box::new(alloc, Until::new(2))?)?;
+    let ran = report_with(alloc, capture_of_a_frame(alloc, 2)?, 1024, watchers)?;
+    assert_eq!(rt; ran.status.number(), 0);
+    assert_eq!(rt; ran.sink.held(), GOOD.as_bytes());
+    Ok(())
+}
+
+#[test]
+fn until_and_clean(rt: HostRuntime) -> Result<(), Fail> {
+    let alloc = rt.alloc();
+    let mut watchers: Vec<Box<dyn Watcher>> = Vec::new(alloc);
     watchers.push(Box::new(alloc, Until::new(4))?)?;
     watchers.push(Box::new(alloc, Clean::new())?)?;
-    let mut source = MemSource::new(capture(alloc)?, 1024, Vec::new(alloc));
-    let mut sink = MemSink::new(alloc, 65536, 64, Vec::new(alloc))?;
-    let mut notes = MemSink::new(alloc, 64, 7, Vec::new(alloc))?;
-    let words = words_of(alloc, "report")?;
-    let status = run(alloc, words, &mut source, &mut sink, &mut notes, watchers);
+    let ran = report_with(alloc, capture_of_a_frame(alloc, 2)?, 1024, watchers)?;
     let mut expected = GOOD.as_bytes().to_vec(alloc)?;
     expected.extend_from_slice(b"tally until 1\ntally clean 3\n")?;
-    assert_eq!(rt; status.number(), 0);
-    assert_eq!(rt; sink.held(), expected.as_slice());
+    assert_eq!(rt; ran.status.number(), 0);
+    assert_eq!(rt; ran.sink.held(), expected.as_slice());
     Ok(())
 }
 
@@ -113,20 +130,11 @@ fn until_and_clean(rt: HostRuntime) -> Result<(), Fail> {
 #[test]
 fn lanes_by_their_numbers(rt: HostRuntime) -> Result<(), Fail> {
     let alloc = rt.alloc();
-    let mut watchers: Vec<Box<dyn Watcher>> = Vec::new(alloc);
-    watchers.push(Box::new(alloc, Totals::new())?)?;
-    watchers.push(Box::new(alloc, Worst::new())?)?;
-    watchers.push(Box::new(alloc, Lanes::new())?)?;
-    watchers.push(Box::new(alloc, Clean::new())?)?;
-    let mut damaged = turned_round(alloc, &capture(alloc)?)?;
+    let mut damaged = turned_round(alloc, &capture_of_a_frame(alloc, 2)?)?;
     invert(&mut damaged, &[(2, 1500, 300)]);
-    let mut source = MemSource::new(damaged, 1024, Vec::new(alloc));
-    let mut sink = MemSink::new(alloc, 65536, 64, Vec::new(alloc))?;
-    let mut notes = MemSink::new(alloc, 64, 7, Vec::new(alloc))?;
-    let words = words_of(alloc, "report")?;
-    let status = run(alloc, words, &mut source, &mut sink, &mut notes, watchers);
-    assert_eq!(rt; status.number(), 0);
-    assert_eq!(rt; sink.held(), TURNED.as_bytes());
+    let ran = report_of(alloc, damaged)?;
+    assert_eq!(rt; ran.status.number(), 0);
+    assert_eq!(rt; ran.sink.held(), TURNED.as_bytes());
     Ok(())
 }
 
@@ -137,15 +145,44 @@ fn a_bad_pair(rt: HostRuntime) -> Result<(), Fail> {
     let mut watchers: Vec<Box<dyn Watcher>> = Vec::new(alloc);
     watchers.push(Box::new(alloc, Clean::new())?)?;
     watchers.push(Box::new(alloc, Totals::new())?)?;
-    let mut damaged = capture(alloc)?;
+    let mut damaged = capture_of_a_frame(alloc, 2)?;
     invert(&mut damaged, &[(0, 1500, 400)]);
-    let mut source = MemSource::new(damaged, 1024, Vec::new(alloc));
-    let mut sink = MemSink::new(alloc, 65536, 64, Vec::new(alloc))?;
-    let mut notes = MemSink::new(alloc, 64, 7, Vec::new(alloc))?;
-    let words = words_of(alloc, "report")?;
-    let status = run(alloc, words, &mut source, &mut sink, &mut notes, watchers);
-    assert_eq!(rt; status.number(), 0);
-    assert_eq!(rt; sink.held(), BAD.as_bytes());
+    let ran = report_with(alloc, damaged, 1024, watchers)?;
+    assert_eq!(rt; ran.status.number(), 0);
+    assert_eq!(rt; ran.sink.held(), BAD.as_bytes());
+    Ok(())
+}
+
+// A lane that slips by a bit: the pairs behind it are bad, and the lanes are found again, the slipped
+// one at the group behind that which lies before the place of the loss.
+const SLIPPED: &'static str = "\
+aligned 680 0123456789abcdef
+pair 0 0 0 0,0,0,0,0,0,0,0,0,0,0,0,0,0,0,0
+pair 1 - - 0,0,0,0,0,0,0,0,0,0,0,0,0,0,0,0
+pair 2 - - 0,0,0,0,0,0,0,0,0,0,0,0,0,0,0,0
+pair 3 - - 0,0,0,0,0,0,0,0,0,0,0,0,0,0,0,0
+lost 3400
+aligned 4759 0123456789abcdef
+pair 0 0 0 0,0,0,0,0,0,0,0,0,0,0,0,0,0,0,0
+pair 1 0 0 0,0,0,0,0,0,0,0,0,0,0,0,0,0,0,0
+frame 3
+pair 2 0 0 0,0,0,0,0,0,0,0,0,0,0,0,0,0,0,0
+tally totals 7 0 6
+tally worst 0
+tally lanes 0 0 0 0 0 0 0 0 0 0 0 0 0 0 0 0
+";
+
+#[test]
+fn a_lane_slips(rt: HostRuntime) -> Result<(), Fail> {
+    let alloc = rt.alloc();
+    let sent = capture_of_a_frame(alloc, 8)?;
+    let slipped = written(alloc, "impair drop=0:1500:1", &sent)?;
+    let decoded = run_over(alloc, "decode", &slipped, 1000)?;
+    assert_eq!(rt; decoded.status.number(), 0);
+    assert_eq!(rt; decoded.sink.held(), b"010203\n".as_slice());
+    let report = report_of(alloc, slipped)?;
+    assert_eq!(rt; report.status.number(), 0);
+    assert_eq!(rt; report.sink.held(), SLIPPED.as_bytes());
     Ok(())
 }
 
@@ -304,31 +341,11 @@ pair 2 0 0 0,0,0,0,0,0,0,0,0,0,0,0,0,0,0,0
     },
 ];
 
-// The report of a capture, with the four watchers.
-fn report_of(alloc: Global, capture: Vec<u8>) -> Result<Ran, AllocError> {
-    let mut watchers: Vec<Box<dyn Watcher>> = Vec::new(alloc);
-    watchers.push(Box::new(alloc, Totals::new())?)?;
-    watchers.push(Box::new(alloc, Worst::new())?)?;
-    watchers.push(Box::new(alloc, Lanes::new())?)?;
-    watchers.push(Box::new(alloc, Clean::new())?)?;
-    let mut source = MemSource::new(capture, 1024, Vec::new(alloc));
-    let mut sink = MemSink::new(alloc, 65536, 64, Vec::new(alloc))?;
-    let mut notes = MemSink::new(alloc, 64, 7, Vec::new(alloc))?;
-    let words = words_of(alloc, "report")?;
-    let status = run(alloc, words, &mut source, &mut sink, &mut notes, watchers);
-    Ok(Ran {
-        status,
-        sink,
-        notes,
-    })
-}
-
 #[test]
 fn rows_of_reports(rt: HostRuntime) -> Result<(), Fail> {
     let alloc = rt.alloc();
     for row in &ROWS {
-        let sent = run_over(alloc, row.sending, b"1 010203\n", 65536)?;
-        let mut capture = sent.sink.held().to_vec(alloc)?;
+        let mut capture = written(alloc, row.sending, b"1 010203\n")?;
         if row.late > 0 {
             capture = skewed(alloc, &capture, row.late)?;
         }
@@ -346,9 +363,8 @@ fn rows_of_reports(rt: HostRuntime) -> Result<(), Fail> {
 #[test]
 fn a_skew_past_the_capture_s_own_limit(rt: HostRuntime) -> Result<(), Fail> {
     let alloc = rt.alloc();
-    let late = skewed(alloc, &capture(alloc)?, 6)?;
-    let limited = run_over(alloc, "migrate --skew 5", &late, 65536)?;
-    let ran = report_of(alloc, limited.sink.held().to_vec(alloc)?)?;
+    let late = skewed(alloc, &capture_of_a_frame(alloc, 2)?, 6)?;
+    let ran = report_of(alloc, written(alloc, "migrate --skew 5", &late)?)?;
     let mut expected = b"failed skew 680 686\nfailed skew 2040 2046\n".to_vec(alloc)?;
     expected.extend_from_slice(NOTHING.as_bytes())?;
     assert_eq!(rt; ran.status.number(), 10);

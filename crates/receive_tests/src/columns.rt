@@ -1,7 +1,6 @@
 // Captures to the block lines of their columns. The expected lines are those of another program,
 // written apart from this one.
-use crate::damage::{Burst, invert, skewed};
-use crate::runs::{input_of, run_over};
+use memory_runs::{Burst, capture_of_a_frame, input_of, invert, run_over, skewed, written};
 use std::test::Fail;
 
 const ERROR: &'static str = "10 1e1e8fc7e3f1783c\n";
@@ -91,8 +90,7 @@ fn rows_of_columns(rt: HostRuntime) -> Result<(), Fail> {
     let alloc = rt.alloc();
     for row in &ROWS {
         let input = input_of(alloc, row.parts)?;
-        let sent = run_over(alloc, row.sending, input.as_bytes(), 65536)?;
-        let mut capture = sent.sink.held().to_vec(alloc)?;
+        let mut capture = written(alloc, row.sending, input.as_bytes())?;
         invert(&mut capture, row.bursts);
         let lines = input_of(alloc, row.lines)?;
         for piece in [1, 65536] {
@@ -108,13 +106,12 @@ fn rows_of_columns(rt: HostRuntime) -> Result<(), Fail> {
 #[test]
 fn columns_of_skewed_lanes(rt: HostRuntime) -> Result<(), Fail> {
     let alloc = rt.alloc();
-    let sent = run_over(alloc, THREE_PERIODS, b"1 010203\n", 65536)?;
-    let late = skewed(alloc, sent.sink.held(), 6)?;
-    let limited = run_over(alloc, "migrate --skew 5", &late, 65536)?;
+    let late = skewed(alloc, &capture_of_a_frame(alloc, 2)?, 6)?;
+    let limited = written(alloc, "migrate --skew 5", &late)?;
     for (command, capture, count, number) in [
         ("columns", late.as_slice(), 480, 0),
         ("columns --skew 5", late.as_slice(), 0, 10),
-        ("columns", limited.sink.held(), 0, 10),
+        ("columns", limited.as_slice(), 0, 10),
     ] {
         let ran = run_over(alloc, command, capture, 7)?;
         assert_eq!(rt; ran.status.number(), number);

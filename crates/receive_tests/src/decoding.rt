@@ -1,7 +1,7 @@
 // Captures to frames, and to captures of version 2.
-use crate::damage::{Burst, invert, skewed, turned_round};
-use crate::runs::{Ran, digest_of, run_over};
-use std::alloc::{AllocError, Global};
+use memory_runs::{
+    Burst, capture_of_a_frame, digest_of, invert, run_over, skewed, turned_round, written,
+};
 use std::test::Fail;
 
 const LINE: &'static str = "1 010203\n";
@@ -124,7 +124,7 @@ const ROWS: [Row; 11] = [
 fn rows_of_frames(rt: HostRuntime) -> Result<(), Fail> {
     let alloc = rt.alloc();
     for row in &ROWS {
-        let mut capture = capture_of(alloc, row.sending, row.lines)?;
+        let mut capture = written(alloc, row.sending, row.lines.as_bytes())?;
         invert(&mut capture, row.bursts);
         for piece in [1, 65536] {
             let ran = run_over(alloc, "decode", &capture, piece)?;
@@ -140,18 +140,22 @@ fn rows_of_frames(rt: HostRuntime) -> Result<(), Fail> {
 #[test]
 fn lanes_are_moved(rt: HostRuntime) -> Result<(), Fail> {
     let alloc = rt.alloc();
-    let capture = capture_of(alloc, THREE_PERIODS, LINE)?;
-    let ran = run_over(alloc, "decode", &turned_round(alloc, &capture)?, 1000)?;
-    assert_eq!(rt; ran.sink.held(), FRAME);
-    assert_eq!(rt; ran.status.number(), 0);
-    let ran = run_over(alloc, "decode", &skewed(alloc, &capture, 339)?, 1000)?;
-    assert_eq!(rt; ran.sink.held(), FRAME);
-    assert_eq!(rt; ran.status.number(), 0);
-    let ran = run_over(alloc, "decode", &skewed(alloc, &capture, 340)?, 1000)?;
-    assert_eq!(rt; ran.sink.held(), b"".as_slice());
-    assert_eq!(rt; ran.status.number(), 10);
-    let ran = run_over(alloc, "decode --skew 5", &skewed(alloc, &capture, 6)?, 1000)?;
-    assert_eq!(rt; ran.status.number(), 10);
+    let capture = capture_of_a_frame(alloc, 2)?;
+    for (command, moved, frames, number) in [
+        ("decode", turned_round(alloc, &capture)?, FRAME, 0),
+        ("decode", skewed(alloc, &capture, 339)?, FRAME, 0),
+        ("decode", skewed(alloc, &capture, 340)?, b"".as_slice(), 10),
+        (
+            "decode --skew 5",
+            skewed(alloc, &capture, 6)?,
+            b"".as_slice(),
+            10,
+        ),
+    ] {
+        let ran = run_over(alloc, command, &moved, 1000)?;
+        assert_eq!(rt; ran.sink.held(), frames);
+        assert_eq!(rt; ran.status.number(), number);
+    }
     Ok(())
 }
 
@@ -159,7 +163,7 @@ fn lanes_are_moved(rt: HostRuntime) -> Result<(), Fail> {
 #[test]
 fn the_hunt_begins_at_its_place(rt: HostRuntime) -> Result<(), Fail> {
     let alloc = rt.alloc();
-    let mut capture = capture_of(alloc, "encode --period 1 --lead 8 --tail 1", LINE)?;
+    let mut capture = capture_of_a_frame(alloc, 8)?;
     invert(
         &mut capture,
         &[(0, 1500, 310), (0, 2180, 310), (0, 2860, 310)],
@@ -171,45 +175,23 @@ fn the_hunt_begins_at_its_place(rt: HostRuntime) -> Result<(), Fail> {
     Ok(())
 }
 
-// Whether `decode` of an input ends so.
-fn ends_so(
-    alloc: Global,
-    input: &[u8],
-    written: &[u8],
-    number: u8,
-    note: &[u8],
-) -> Result<bool, AllocError> {
-    let ran = run_over(alloc, "decode", input, 7)?;
-    Ok(ran.sink.held() == written && ran.status.number() == number && ran.notes.held() == note)
-}
-
+// Seven octets behind the last whole beat.
 #[test]
 fn captures_are_cut(rt: HostRuntime) -> Result<(), Fail> {
     let alloc = rt.alloc();
-    let mut capture = capture_of(alloc, THREE_PERIODS, LINE)?;
+    let mut capture = capture_of_a_frame(alloc, 2)?;
     capture.extend_from_slice(b"1234567")?;
-    assert!(rt; ends_so(alloc, &capture, FRAME, 9, b"pcs: 7 octets over\n")?);
-    let header = b"P4LC\x01\x10\x00\x01\0\0\0\0\0\0\0\0";
-    assert!(rt;
-        ends_so(
-            alloc,
-            &header[..15],
-            b"",
-            7,
-            b"pcs: header ends after 15 octets\n"
-        )?
-    );
-    let version = b"P4LC\x09\x10\x00\x01\0\0\0\0\0\0\0\0";
-    assert!(rt; ends_so(alloc, version, b"", 7, b"pcs: header wrong at octet 4\n")?);
-    let second = b"P4LC\x02\x10\0\0\0\0\0\x01\0\0\x01\x53";
-    assert!(rt; ends_so(alloc, second, b"", 7, b"pcs: header ends after 16 octets\n")?);
+    let ran = run_over(alloc, "decode", &capture, 7)?;
+    assert_eq!(rt; ran.sink.held(), FRAME);
+    assert_eq!(rt; ran.status.number(), 9);
+    assert_eq!(rt; ran.notes.held(), b"pcs: 7 octets over\n".as_slice());
     Ok(())
 }
 
 #[test]
 fn captures_are_migrated(rt: HostRuntime) -> Result<(), Fail> {
     let alloc = rt.alloc();
-    let capture = capture_of(alloc, THREE_PERIODS, LINE)?;
+    let capture = capture_of_a_frame(alloc, 2)?;
     for piece in [1, 65536] {
         let ran = run_over(alloc, "migrate --skew 5", &capture, piece)?;
         let digest = digest_of(alloc, ran.sink.held())?;
@@ -221,10 +203,4 @@ fn captures_are_migrated(rt: HostRuntime) -> Result<(), Fail> {
         );
     }
     Ok(())
-}
-
-// The capture that `encode` makes of frame lines.
-fn capture_of(alloc: Global, sending: &str, lines: &str) -> Result<Vec<u8>, AllocError> {
-    let ran: Ran = run_over(alloc, sending, lines.as_bytes(), 65536)?;
-    ran.sink.held().to_vec(alloc)
 }

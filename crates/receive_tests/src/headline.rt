@@ -1,6 +1,5 @@
 // Which of many frames a capture gives back, by the places of their columns.
-use crate::damage::{Burst, invert, skewed, turned_round};
-use crate::runs::run_over;
+use memory_runs::{Burst, invert, run_over, skewed, turned_round, written};
 use std::alloc::{AllocError, Global};
 use std::ops::Range;
 use std::test::Fail;
@@ -100,8 +99,7 @@ fn a_wrong_second_marker(rt: HostRuntime) -> Result<(), Fail> {
         ("encode --period 1 --lead 2 --tail 1", "", 0),
         ("encode --period 1 --lead 4 --tail 1", "00\n", 0),
     ] {
-        let ran = run_over(alloc, sending, frames.as_bytes(), 65536)?;
-        let mut capture = ran.sink.held().to_vec(alloc)?;
+        let mut capture = written(alloc, sending, frames.as_bytes())?;
         invert(&mut capture, &WRONG_SECOND_MARKER);
         let ran = run_over(alloc, "decode", &capture, 1000)?;
         assert_eq!(rt; ran.sink.held(), text.as_bytes());
@@ -129,8 +127,7 @@ fn a_lane_that_comes_twice(rt: HostRuntime) -> Result<(), Fail> {
 // The capture of all frames.
 fn capture_of_frames(alloc: Global) -> Result<Vec<u8>, AllocError> {
     let lines = frame_lines(alloc, "1 ", FRAMES)?;
-    let ran = run_over(alloc, SENDING, lines.as_bytes(), 65536)?;
-    ran.sink.held().to_vec(alloc)
+    written(alloc, SENDING, lines.as_bytes())
 }
 
 // A line for each of these frames, which has its number as its one octet, with a gap before it or none.
