@@ -135,9 +135,6 @@ header-split front behind whole =
     cond-false (nat_lt (length (front ++ behind)) 24) _ _ (not-less _ _ (omega (arith, length-append front behind)))
     ∙ ap₂ settled (order-in-front front behind (omega arith)) (rest-behind 24 front behind whole)
 
-pub header-short : (octets : List ℕ) → length octets < 24 → header_at octets ≡ Short
-header-short octets few = cond-true (nat_lt (length octets) 24) _ _ (less _ _ few)
-
 -- a header that isn't whole has fewer octets
 pub header-long : (octets : List ℕ) → header_at octets ≡ Short → length octets < 24
 header-long octets e = elim (chosen (nat_lt (length octets) 24) _ _ _ e) [

@@ -8,8 +8,7 @@ use Rattle.pcs_io.specs.Faults.{Rose}
 use Rattle.pcs_io.specs.Grammars.{Begins}
 use Rattle.pcs_io.specs.Beats.{beat_at}
 use Rattle.pcs_io.specs.Octets.{TakesWhereTold, AppendsFront}
-use Rattle.pcs_io.specs.Captures.{FrontAt, History, BeatsState, Stands, StandsAt, course_of, Going, Failed, OpensBy, OpensWholeBy, TellsBy, PassesBy, BeatAnswersBy}
-use Rattle.pcs_io.specs.Captures.{header_read, beat_told, whole_front}
+use Rattle.pcs_io.specs.Captures.{FrontAt, History, BeatsState, Stands, StandsAt, course_of, Going, Failed, OpensBy, OpensWholeBy, TellsBy, PassesBy, BeatAnswersBy, header_read, beat_told, whole_front}
 use Rattle.pcs_io.specs.declared.beats.Front.{Front}
 use Rattle.pcs_io.specs.declared.beats.Front.TheVariants as front
 use Rattle.pcs_io.specs.declared.beats.BeatIn.{BeatIn}

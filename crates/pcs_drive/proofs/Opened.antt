@@ -14,8 +14,7 @@ use Rattle.pcs_io.proofs.HeaderSizes.{short-header, few-taken}
 use Rattle.pcs_io.proofs.Told.{takes-after, takes-consumed}
 use Rattle.pcs_drive.specs.Seen.{Seen, Written, ReadFailed}
 use Rattle.pcs_drive.specs.Outcomes.{outcome_of_capture}
-use Rattle.pcs_drive.specs.CaptureCommand.{BeatsText, TextBehind, CaptureText, LevelsText, HasOpenedBy, HasOpened, HasOpenedLevels}
-use Rattle.pcs_drive.specs.CaptureCommand.{TookBeatsBy, TookAllBeatsBy, BrokeOffBy, FromBeatsBy, FromBeats, FromLevelBeats, FromFileBy, FromCapture, FromLevels}
+use Rattle.pcs_drive.specs.CaptureCommand.{BeatsText, TextBehind, CaptureText, LevelsText, HasOpenedBy, HasOpened, HasOpenedLevels, TookBeatsBy, TookAllBeatsBy, BrokeOffBy, FromBeatsBy, FromBeats, FromLevelBeats, FromFileBy, FromCapture, FromLevels}
 use Rattle.pcs_drive.specs.declared.outcome.Outcome.{Outcome}
 use Rattle.pcs_drive.specs.declared.outcome.Outcome.TheVariants.{Done, ReadFault, WriteFault, NoMemory, BadLine, BadHeader, TooTight, Cut, NotAligned, TooLong}
 use Rattle.pcs_drive.proofs.Copying.{rose-after}

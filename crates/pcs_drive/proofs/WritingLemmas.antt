@@ -62,10 +62,6 @@ front-more (Some before) (Some after) text more a =
     let within : a.0 ≤ length text = a.1 in
     (a.0, omega (arith, a.1, length-append text more), a.2 ∙ ap (λ t. before ++ t) (rw take-append-le refl))
 
-pub front-start : (start : Option (List ℕ)) (text : List ℕ) → AppendsFront start start text
-front-start None text = tt
-front-start (Some before) text = (0, omega arith, sym (append-nil before))
-
 -- ---- what is held never gets less
 pub longer-none : (held : Option (List ℕ)) → Longer held held
 longer-none held = ([], appends-none held)

@@ -1,13 +1,10 @@
 -- The calls behind the header of a reader of captures or of files of levels, over every history.
-use Rattle.std.proofs.Common.{◌≡◌, ℕ, ◌+◌, ◌*◌, ◌/◌, ◌%◌, ◌<◌, Bool, List, [], ◌∷◌, ◌++◌, length, take, drop, refl, sym, ap, ap₂, ◌∙◌, inl, inr, subst}
-use Rattle.std.proofs.Common.{arith, append_assoc, length-append, Option, Some, None, Result, Ok, Err}
+use Rattle.std.proofs.Common.{◌≡◌, ℕ, ◌+◌, ◌*◌, ◌/◌, ◌%◌, ◌<◌, Bool, List, [], ◌∷◌, ◌++◌, length, take, drop, refl, sym, ap, ap₂, ◌∙◌, inl, inr, subst, arith, append_assoc, length-append, Option, Some, None, Result, Ok, Err}
 use Rattle.pcs_io.specs.Grammars.{Begins}
 use Rattle.pcs_io.specs.Beats.{beat_at, BeatParserState}
 use Rattle.pcs_io.specs.Histories.{ReaderState}
 use Rattle.pcs_io.specs.Histories as lines
-use Rattle.pcs_io.specs.Captures.{FrontAt, header_at, levels_header_at, OpensBy, OpensWholeBy, Course, Going, Ended, History, BeatsState, Stands}
-use Rattle.pcs_io.specs.Captures.{StandsAt, IsHeaderBy, course_of}
-use Rattle.pcs_io.specs.Captures.{Tells, TellsBy, IsNearerEnd, Passes, PassesBy, beat_of, ReadsBeat}
+use Rattle.pcs_io.specs.Captures.{FrontAt, header_at, levels_header_at, OpensBy, OpensWholeBy, Course, Going, Ended, History, BeatsState, Stands, StandsAt, IsHeaderBy, course_of, Tells, TellsBy, IsNearerEnd, Passes, PassesBy, beat_of, ReadsBeat}
 use Rattle.pcs_io.specs.declared.fault.InFault.{InFault}
 use Rattle.pcs_io.specs.declared.fault.InFault.TheVariants as fault
 use Rattle.pcs_io.specs.declared.header.Header.{Header}
@@ -123,19 +120,6 @@ pub level-beat-told : (x : BeatsState) (new : ReaderState BeatParserState) (befo
     → TellsBy levels_header_at h.course h header x (record { reader = new; front = x.front }) before now ended result
 level-beat-told x new before now ended result reads h header s read =
     told-by levels_header_at front.ReadLevels level_files x new before now ended result reads h header s read
-
-nearer-by : (f : Front) (old new : ReaderState BeatParserState) (answer : Result (Option (List ℕ)) InFault) (n : ℕ) → lines.IsNearerEnd old new answer
-    → IsNearerEnd (record { reader = old; front = f }) (record { reader = new; front = f }) (beat_of answer n)
-nearer-by f old new (Ok (Some beat)) n near = near
-nearer-by f old new (Ok None) n near = tt
-nearer-by f old new (Err fault.Read) n near = tt
-nearer-by f old new (Err (fault.BadLine number kind)) n near = tt
-nearer-by f old new (Err fault.TooLong) n near = tt
-
-pub beat-nearer : (x : BeatsState) (new : ReaderState BeatParserState) (before now : Option (List ℕ)) (ended : Bool) (result : Result BeatIn CapFault)
-    → ReadsBeat x.reader new before now ended result → IsNearerEnd x (record { reader = new; front = x.front }) result
-beat-nearer x new before now ended result (answer, n, e) =
-    subst (IsNearerEnd x (record { reader = new; front = x.front })) (sym e) (nearer-by x.front x.reader new answer new.buffer.taken n.nearer)
 
 -- where the calls go on, so does the reader of pieces
 pub going-of : (standing : Standing) (taken : ℕ) → course_of standing taken ≡ Going → standing ≡ reader.Going

@@ -1,6 +1,5 @@
 -- The call that reads the header, over every history.
-use Rattle.std.proofs.Common.{◌≡◌, ℕ, ◌<◌, ◌≤◌, arith, Bool, false, List, [], ◌∷◌, ◌++◌, length, refl, sym, ap, ◌∙◌, inl, inr, subst, append_assoc, append-nil, Option}
-use Rattle.std.proofs.Common.{Some, None, Result, Ok, Err}
+use Rattle.std.proofs.Common.{◌≡◌, ℕ, ◌<◌, ◌≤◌, arith, Bool, false, List, [], ◌∷◌, ◌++◌, length, refl, sym, ap, ◌∙◌, inl, inr, subst, append_assoc, append-nil, Option, Some, None, Result, Ok, Err}
 use Rattle.std.specs.List.{flat_map}
 use Rattle.std.specs.Io.KnownBytes.{Consumes}
 use Rattle.pcs_io.specs.Beats.{beat_at, BeatParserState}
@@ -8,9 +7,7 @@ use Rattle.pcs_io.specs.Headers.{header_of, header2_of}
 use Rattle.pcs_io.specs.LevelsHeaders.{levels_header_of}
 use Rattle.pcs_io.specs.Histories.{ReaderState}
 use Rattle.pcs_io.specs.Histories as lines
-use Rattle.pcs_io.specs.Captures.{FrontAt, settled, header_at, levels_header_at, is_version2, History, BeatsState, Stands, StandsAt, IsHeaderBy, opened}
-use Rattle.pcs_io.specs.Captures.{HeaderAnswersBy, header_told, course_of, piece_of, refusal_of, by_both}
-use Rattle.pcs_io.specs.Captures.{ReadsPiece, ReadsSecond, ReadsOn, FrontReads, ReadsOnLevels, LevelsFrontReads, Rests}
+use Rattle.pcs_io.specs.Captures.{FrontAt, settled, header_at, levels_header_at, is_version2, History, BeatsState, Stands, StandsAt, IsHeaderBy, opened, HeaderAnswersBy, header_told, course_of, piece_of, refusal_of, by_both, ReadsPiece, ReadsSecond, ReadsOn, FrontReads, ReadsOnLevels, LevelsFrontReads, Rests}
 use Rattle.pcs_io.specs.declared.fault.InFault.{InFault}
 use Rattle.pcs_io.specs.declared.fault.InFault.TheVariants as fault
 use Rattle.pcs_io.specs.declared.header.Header.{Header}

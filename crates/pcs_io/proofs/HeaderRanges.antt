@@ -1,6 +1,5 @@
 -- The ranges of a header that was read.
-use Rattle.std.proofs.Common.{◌≡◌, ℕ, Bool, true, false, cond, List, [], ◌∷◌, Some, Result}
-use Rattle.std.proofs.Common.{Ok, Err, ap, subst, arith, inl, inr, take, drop}
+use Rattle.std.proofs.Common.{◌≡◌, ℕ, Bool, true, false, cond, List, [], ◌∷◌, Some, Result, Ok, Err, ap, subst, arith, inl, inr, take, drop}
 use Rattle.std.specs.Prelude.{nat_le}
 use Rattle.std.specs.List.{AllByRecursion}
 use Rattle.std.proofs.lemmas.Bool.{cases_Bool, and_parts, leb-true}

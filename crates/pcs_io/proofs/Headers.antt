@@ -10,15 +10,6 @@ both a b s t = rw (s, t) refl
 pub in_range : (least n most : ℕ) → least ≤ n → n ≤ most → (nat_le least n && nat_le n most) ≡ true
 in_range least n most low high = both _ _ (le-leb least n low) (le-leb n most high)
 
-pub header_right : (octets : List ℕ) → bytes_eq (take 4 octets) (codes "P4LC") ≡ true → slice_index octets 4 ≡ 1 → slice_index octets 5 ≡ 16
-    → 1 ≤ period_of octets → period_of octets ≤ 4096 → bytes_eq (slice_range octets 8 16) (replicate 8 0) ≡ true
-    → header_of octets ≡ Ok (record { version = 1; period = period_of octets; skew = most_skew (period_of octets) })
-unfolding header_of
-header_right octets magic version lanes least most zeros =
-    let none : first_wrong (fields octets) ≡ None =
-    rw (magic, eq-eqb (slice_index octets 4) 1 version, eq-eqb (slice_index octets 5) 16 lanes, in_range 1 (period_of octets) 4096 least most, zeros) refl in
-    ap (λ wrong. header_or wrong (record { version = 1; period = period_of octets; skew = most_skew (period_of octets) })) none
-
 pub header2_right : (octets : List ℕ) → bytes_eq (take 4 octets) (codes "P4LC") ≡ true → slice_index octets 4 ≡ 2 → slice_index octets 5 ≡ 16
     → bytes_eq (slice_range octets 6 8) (replicate 2 0) ≡ true
     → 1 ≤ period2_of octets → period2_of octets ≤ 65536 → skew2_of octets ≤ most_skew (period2_of octets)

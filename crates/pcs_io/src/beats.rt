@@ -67,8 +67,7 @@ impl Model for Beats {
 }
 
 impl Beats {
-    ghost use Rattle.pcs_io.specs.Captures.{History, Stands, Tells, TellsBy, HeaderAnswers, HeaderAnswersBy, IsNearerEnd, Going, Passes, PassesBy};
-    ghost use Rattle.pcs_io.specs.Captures.{opened, header_told, header_read, whole_front, levels_header_at};
+    ghost use Rattle.pcs_io.specs.Captures.{History, Stands, Tells, TellsBy, HeaderAnswers, HeaderAnswersBy, IsNearerEnd, Going, Passes, PassesBy, opened, header_told, header_read, whole_front, levels_header_at};
     ghost use Rattle.pcs_io.specs.Histories.{octets_ahead};
     ghost use Rattle.pcs_io.specs.declared.header.Header.{Header};
     ghost use Rattle.pcs_io.specs.declared.levels_header.LevelsHeader.{LevelsHeader};

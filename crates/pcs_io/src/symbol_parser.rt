@@ -4,8 +4,7 @@ ghost use Rattle.std.specs.Char.{digit_value};
 ghost use Rattle.pcs_io.specs.Grammars.{Line};
 ghost use Rattle.pcs_io.specs.Parsing.{comes_after};
 ghost use Rattle.pcs_io.specs.SymbolAnswers.{AreSymbols, is_count};
-ghost use Rattle.pcs_io.specs.SymbolLines.{symbol_line_at, symbols_at, numbers_of, is_width};
-ghost use Rattle.pcs_io.specs.SymbolLines.{MayStand, AreSymbolDigits, AreSmall};
+ghost use Rattle.pcs_io.specs.SymbolLines.{symbol_line_at, symbols_at, numbers_of, is_width, MayStand, AreSymbolDigits, AreSmall};
 
 use crate::Kind;
 use crate::parser::{Parser, Step, Taken};

@@ -1,9 +1,6 @@
 //! Laws of the events. A function that does nothing states its law in its contract.
 ghost use Rattle.pcs_receive.specs.Laws.{EventsGrow, EventsGoByHunts, BadBitsDoNotCount, BadPairsCloseFrames, PairsHaveAllColumns};
-ghost use Rattle.pcs_receive.specs.Headline.{TrueLockAligns, AlignmentIsTold};
-ghost use Rattle.pcs_receive.specs.Headline.{WordsTellWrongSymbols, ReportsTellWrongSymbols};
-ghost use Rattle.pcs_receive.specs.Headline.{Headline, HeadlineOfItems};
-ghost use Rattle.pcs_receive.specs.Headline.{AnyDamage, AnyDamageOverall, BadPairsAreErrors};
+ghost use Rattle.pcs_receive.specs.Headline.{TrueLockAligns, AlignmentIsTold, WordsTellWrongSymbols, ReportsTellWrongSymbols, Headline, HeadlineOfItems, AnyDamage, AnyDamageOverall, BadPairsAreErrors};
 
 /// What is told of a capture's first beats stands whatever beats follow.
 pub fn events_grow()

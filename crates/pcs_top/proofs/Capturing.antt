@@ -1,7 +1,6 @@
 -- The capture of columns, pair by pair.
-use Rattle.std.proofs.Common.{refl, ◌≡◌, ℕ, zero, suc, ◌+◌, ◌-◌, ◌<◌, ◌≤◌, List, ◌∷◌, ◌++◌, length, flat_map, Option, sym, ◌∙◌, ap, ap₂, subst, arith, inl, inr, append_assoc, append-nil, length-append}
+use Rattle.std.proofs.Common.{refl, ◌≡◌, ℕ, zero, suc, ◌+◌, ◌-◌, ◌<◌, ◌≤◌, List, ◌∷◌, ◌++◌, length, flat_map, Option, sym, ◌∙◌, ap, ap₂, subst, arith, inl, inr, append_assoc, append-nil, length-append, true}
 use Rattle.std.specs.List.{range_with_len}
-use Rattle.std.proofs.Common.{true}
 use Rattle.std.proofs.lemmas.Bool.{cases_lt, eq-eqb}
 use Rattle.std.proofs.lemmas.List.{length-replicate}
 use Rattle.bit_lists.specs.Places.{flat, joined}
@@ -140,12 +139,6 @@ with_one_pair p cs n whole =
     ∙ append_assoc cs (idles (columns_before p (t + n) - length cs)) (idles (last - columns_before p (t + n)))
     ∙ ap (λ xs. cs ++ xs) (idles-append (columns_before p (t + n) - length cs) (last - columns_before p (t + n))
     ∙ ap idles (omega (arith, whole, wides-mono p t n, rise, ap (columns_before p) place)))
-
-pub are_whole-with_pairs : (p : ℕ) (cs : List Column) (n : ℕ) → AreWhole p cs → AreWhole p (with_pairs p cs n)
-are_whole-with_pairs p cs n whole =
-    let t = whole_pairs p (length cs) in
-    let size = length-with_pairs p cs n whole in
-    ap (columns_before p) (ap (whole_pairs p) size ∙ whole_pairs-is p (columns_before p (t + n)) (t + n) (omega arith) (room_of_pair p (t + n))) ∙ sym size
 
 -- the pair in hand, filled with idles
 module _ (old : State) (f : ℕ) (p : ℕ) (cs : List Column) (owed : ℕ) (start held : Option (List ℕ)) (pending : List ℕ) (o : HasSent old f p cs owed start held pending) where

@@ -1,6 +1,5 @@
 -- The columns written of a capture, and those still owed, by its pairs.
-use Rattle.std.proofs.Common.{◌≡◌, ℕ, zero, suc, ◌+◌, ◌*◌, ◌%◌, ◌==◌, Bool, true, false, inl, inr, List, [], ◌∷◌, ◌++◌, length, map, reverse}
-use Rattle.std.proofs.Common.{Option, Some, None, refl, sym, ◌∙◌, ap, subst, append_assoc, append-nil, arith, length-append}
+use Rattle.std.proofs.Common.{◌≡◌, ℕ, zero, suc, ◌+◌, ◌*◌, ◌%◌, ◌==◌, Bool, true, false, inl, inr, List, [], ◌∷◌, ◌++◌, length, map, reverse, Option, Some, None, refl, sym, ◌∙◌, ap, subst, append_assoc, append-nil, arith, length-append}
 use Rattle.std.specs.Prelude.{codes, filter_map, replicate, if◌then◌else◌}
 use Rattle.std.specs.Int.{to_le_bytes, w64}
 use Rattle.std.specs.List.{flat_map}
@@ -24,8 +23,7 @@ use Rattle.pcs_watch.specs.declared.Report.{Report}
 use Rattle.pcs_send.proofs.Carrying.{joined-none, joined-next}
 use Rattle.pcs_receive.specs.Reports.{Rows, report_of}
 use Rattle.pcs_receive.specs.Received.{columns_of_pair, pair_at}
-use Rattle.pcs_receive.specs.Events.{Event, column, failure, alignment, report, group, column_events_of_pair, third_bad}
-use Rattle.pcs_receive.specs.Events.{heard_of, lost_of, pairs_of, hunt_events, hunts, column_events}
+use Rattle.pcs_receive.specs.Events.{Event, column, failure, alignment, report, group, column_events_of_pair, third_bad, heard_of, lost_of, pairs_of, hunt_events, hunts, column_events}
 use Rattle.pcs_receive.proofs.ColumnCounts.{pairs_have_all_columns}
 use Rattle.pcs_top.specs.Laws.{ColumnsFillPairs}
 use Rattle.pcs_top.specs.ColumnTexts.{call_of, calls_of, refilled, column_lines}

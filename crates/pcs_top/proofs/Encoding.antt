@@ -5,13 +5,12 @@ use Rattle.mac_columns.specs.declared.column.Column.{Column}
 use Rattle.rate_match.specs.Kept.{HasLegalGaps}
 use Rattle.rate_match.proofs.Keeping.{legal_gaps-nil}
 use Rattle.pcs_send.specs.Holding.{State}
-use Rattle.pcs_io.specs.Octets.{AppendsFront}
+use Rattle.pcs_io.specs.Octets.{AppendsFront, TakesWhereTold}
 use Rattle.pcs_io.specs.FrameLines.{FrameLine, frame_line_at}
 use Rattle.pcs_io.specs.Histories.{ReaderState, History, Stands, Nexts, told, opened}
 use Rattle.pcs_io.specs.declared.fault.InFault.{InFault}
 use Rattle.pcs_io.specs.declared.fault.InFault.TheVariants as in_fault
 use Rattle.pcs_io.specs.declared.source.Failed.{Failed}
-use Rattle.pcs_io.specs.Octets.{TakesWhereTold}
 use Rattle.pcs_io.specs.Grammars.{Begins}
 use Rattle.pcs_io.proofs.Told.{consumes-none, consumes-append, takes-after, takes-consumed}
 use Rattle.pcs_io.specs.declared.fault.Kind.{Kind}

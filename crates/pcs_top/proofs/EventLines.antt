@@ -11,14 +11,6 @@ use Rattle.pcs_receive.specs.declared.event.Event.{Event as Answer}
 use Rattle.pcs_receive.specs.Hearings.{IsAnswer}
 use Rattle.pcs_top.specs.Reporting.{alignment_line, commas, drop_line, event_line, failure_line, lane_digit, number_line, report_line}
 
--- one digit more
-pub digits-more : (line old numbers : List ℕ) (i d : ℕ) → i < length numbers → line ≡ old ++ map lane_digit (take i numbers)
-    → line ++ lane_digit (get_or numbers i d) ∷ [] ≡ old ++ map lane_digit (take (i + 1) numbers)
-digits-more line old numbers i d low is =
-    let last = lane_digit (get_or numbers i d) ∷ [] in
-    ap (λ t. t ++ last) is ∙ append_assoc old (map lane_digit (take i numbers)) last
-    ∙ ap (λ t. old ++ t) (sym (ap (map lane_digit) (take_more numbers i d low) ∙ map-append lane_digit (take i numbers) (get_or numbers i d ∷ [])))
-
 -- each number with a comma behind it
 unfoldable pub with_commas : List ℕ → List ℕ
 with_commas ns = flat_map (λ n. decimal n ++ codes ",") ns

@@ -13,9 +13,8 @@ use Rattle.pcs_send.specs.Holding.{State, Stands}
 use Rattle.pcs_send.proofs.Pairs.{wides-zero, whole_pairs-is, columns-periods}
 use Rattle.pcs_send.proofs.Carrying.{pairs_octets-none}
 use Rattle.pcs_send.proofs.Filling.{room_of_pair, lacking_full, lacking_begun}
-use Rattle.pcs_top.specs.Captures.{form_header}
+use Rattle.pcs_top.specs.Captures.{form_header, begun_octets, sent_octets}
 use Rattle.pcs_io.specs.Octets.{AppendsFront}
-use Rattle.pcs_top.specs.Captures.{begun_octets, sent_octets}
 use Rattle.pcs_top.specs.Sending.{HasSent, HasPut, with_pairs, filled_columns, AreWhole}
 use Rattle.pcs_drive.specs.Writing.{Wrote}
 use Rattle.pcs_words.specs.declared.command.EncodeOptions.{EncodeOptions}
@@ -102,16 +101,6 @@ end-is o cs count least is whole =
     ap (with_pairs o.period (filled_columns o cs)) is
     ∙ whole-periods o.period (filled_columns o cs) o.tail least whole
     ∙ append_assoc begun (idles (lacking o.period (length begun))) (idles (o.tail * room o.period))
-
--- what was begun is a front of what is sent
-pub begun-front : (o : EncodeOptions) (cs : List Column) (start now : Option (List ℕ)) → AppendsFront start now (begun_octets o cs)
-    → AppendsFront start now (sent_octets o cs)
-unfolding sent sent_columns
-begun-front o cs start now front =
-    let begun = begun_columns o.period o.lead cs in
-    let more = idles (lacking o.period (length begun)) ++ idles (o.tail * room o.period) in
-    let rest = capture-front o.form o.period begun more in
-    subst (AppendsFront start now) (sym rest.1) (front-more start now (begun_octets o cs) rest.0 front)
 
 pub ends-sent : (s : State) (o : EncodeOptions) (cs xs : List Column) (owed : ℕ) (start held : Option (List ℕ)) (pending : List ℕ)
     → xs ≡ sent_columns o.period o.lead o.tail cs

@@ -1,6 +1,5 @@
 -- Beats that an impairer gives are put behind the header.
-use Rattle.std.proofs.Common.{◌≡◌, ℕ, zero, suc, ◌+◌, ◌<◌, ◌≤◌, Bool, true, false, List, [], ◌∷◌, ◌++◌}
-use Rattle.std.proofs.Common.{Option, Some, None, refl, sym, ◌∙◌, ap, subst, arith, inl, inr, append_assoc, append-nil}
+use Rattle.std.proofs.Common.{◌≡◌, ℕ, zero, suc, ◌+◌, ◌<◌, ◌≤◌, Bool, true, false, List, [], ◌∷◌, ◌++◌, Option, Some, None, refl, sym, ◌∙◌, ap, subst, arith, inl, inr, append_assoc, append-nil}
 use Rattle.std.specs.Prelude.{nat_lt, if◌then◌else◌}
 use Rattle.std.specs.List.{All}
 use Rattle.std.proofs.lemmas.Bool.{cases_lt, lt-ltb, ltb-true, ltb-false}
@@ -17,8 +16,7 @@ use Rattle.pcs_io.specs.declared.header.Header.{Header}
 use Rattle.pcs_drive.specs.Seen.{Seen}
 use Rattle.pcs_drive.specs.CaptureCommand.{BeatsText, TookBeatsBy, TookAllBeatsBy, BrokeOffBy, FromBeats}
 use Rattle.pcs_drive.specs.declared.outcome.Outcome.{Outcome}
-use Rattle.pcs_drive.specs.declared.outcome.Outcome.TheVariants.{Done, ReadFault, WriteFault, NoMemory, BadLine}
-use Rattle.pcs_drive.specs.declared.outcome.Outcome.TheVariants.{BadHeader, TooTight, Cut, NotAligned, TooLong}
+use Rattle.pcs_drive.specs.declared.outcome.Outcome.TheVariants.{Done, ReadFault, WriteFault, NoMemory, BadLine, BadHeader, TooTight, Cut, NotAligned, TooLong}
 use Rattle.pcs_drive.specs.Writing.{Wrote, Puts, BreaksOffBefore}
 use Rattle.pcs_drive.proofs.Copying.{rose-after}
 use Rattle.pcs_drive.proofs.WritingLemmas.{front-more, wrote-pending}

@@ -1,6 +1,5 @@
 pub mod PuttingBlocks
 pub mod LineTexts
-pub mod Rows
 pub mod Completeness
 pub mod Undoing
 pub mod Idling

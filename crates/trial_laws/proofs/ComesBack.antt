@@ -1,6 +1,5 @@
 -- Where a trial locks truly, all frames come back, and each wrong symbol is told as corrected.
-use Rattle.std.proofs.Common.{◌≡◌, ℕ, zero, suc, ◌+◌, ◌-◌, ◌*◌, ◌<◌, ◌≤◌, ◌++◌, ◌&&◌, Bool, true, false, List, [], ◌∷◌, length, map, Option, Some}
-use Rattle.std.proofs.Common.{None, is_some, refl, sym, ap, ap₂, ◌∙◌, inl, inr, arith}
+use Rattle.std.proofs.Common.{◌≡◌, ℕ, zero, suc, ◌+◌, ◌-◌, ◌*◌, ◌<◌, ◌≤◌, ◌++◌, ◌&&◌, Bool, true, false, List, [], ◌∷◌, length, map, Option, Some, None, is_some, refl, sym, ap, ap₂, ◌∙◌, inl, inr, arith}
 use Rattle.std.specs.Prelude.{not, sum_by, unwrap_or, option_map, bytes_eq, filter_map}
 use Rattle.std.proofs.lemmas.Bool.{cases_lt, eq-eqb, and_parts}
 use Rattle.std.proofs.lemmas.List.{append_assoc, append-nil, length-append, length-replicate}
@@ -25,8 +24,7 @@ use Rattle.pcs_send.proofs.Pairs.{columns-periods, wides-zero}
 use Rattle.pcs_send.proofs.Carrying.{joined-none, joined-next}
 use Rattle.pcs_receive.specs.Reports.{Rows, report_of, member_a, member_b}
 use Rattle.pcs_receive.specs.Received.{pair_at, is_bad}
-use Rattle.pcs_receive.specs.Events.{Event, report, events, third_bad, are_bad, heard_of, pairs_of, next_hunt, end_of_pair, hunt_events}
-use Rattle.pcs_receive.specs.Events.{frame_events, gathered_in_pair, event_of_outcome, lost_of, alignment, good}
+use Rattle.pcs_receive.specs.Events.{Event, report, events, third_bad, are_bad, heard_of, pairs_of, next_hunt, end_of_pair, hunt_events, frame_events, gathered_in_pair, event_of_outcome, lost_of, alignment, good}
 use Rattle.pcs_receive.specs.Images.{HasTrueLock}
 use Rattle.pcs_receive.specs.Headline.{AlignsAt, HasAtMostWrong, named_frames, behind_first_wide, behind_pairs}
 use Rattle.pcs_receive.proofs.Headline.{headline_of_items, reports_tell_wrong_symbols}
@@ -34,9 +32,8 @@ use Rattle.pcs_receive.proofs.Hunts.{events-told, told-equation, told_on}
 use Rattle.pcs_receive.proofs.PairsOf.{length-pairs_of}
 use Rattle.mac_columns.specs.RunPlaces.{frames_between}
 use Rattle.trial_laws.specs.TrialFrames.{behind_frame, trial_frames}
-use Rattle.trial_laws.specs.Trial.{limit_of, trial_columns, trial_pairs, trial_lanes, trial_capture, corrected_of, corrected, are_same, made_columns}
+use Rattle.trial_laws.specs.Trial.{limit_of, trial_columns, trial_pairs, trial_lanes, trial_capture, corrected_of, corrected, are_same, made_columns, made_frames, trial_summary}
 use Rattle.trial_laws.specs.declared.summary.Summary.{Summary}
-use Rattle.trial_laws.specs.Trial.{made_frames, trial_summary}
 use Rattle.trial_laws.specs.Laws.{trial_image, TrialComesBack, TrialTells, SameFrames}
 use Rattle.trial_laws.proofs.MadeFrames.{are-frames}
 use Rattle.trial_laws.proofs.TrialImage.{trial_is_an_image}

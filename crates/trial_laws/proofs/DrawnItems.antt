@@ -1,9 +1,6 @@
 -- The order and the skews of a trial, word by word.
-use Rattle.std.proofs.Common.{◌≡◌, ℕ, zero, suc, ◌+◌, ◌-◌, ◌%◌, ◌<◌, List, [], ◌∷◌}
-use Rattle.std.proofs.Common.{length, get_or, set, drop, refl, sym, ◌∙◌, ap, arith, inl, inr}
-use Rattle.std.specs.Prelude.{◌==◌, if◌then◌else◌, swap}
-use Rattle.std.proofs.Common.{add-one, length-drop, drop-cons, get_or-drop, get_or-set_other}
-use Rattle.std.specs.Prelude.{◌⊎◌, ◌≢◌}
+use Rattle.std.proofs.Common.{◌≡◌, ℕ, zero, suc, ◌+◌, ◌-◌, ◌%◌, ◌<◌, List, [], ◌∷◌, length, get_or, set, drop, refl, sym, ◌∙◌, ap, arith, inl, inr, add-one, length-drop, drop-cons, get_or-drop, get_or-set_other}
+use Rattle.std.specs.Prelude.{◌==◌, if◌then◌else◌, swap, ◌⊎◌, ◌≢◌}
 use Rattle.std.proofs.Math.Nat.{mod-lt}
 use Rattle.std.proofs.lemmas.List.{length-set}
 use Rattle.std.proofs.lemmas.Bool.{cases_lt, cases_order, eq-eqb, ne_eqb}

@@ -1,6 +1,5 @@
 -- The words of a trial, one after the other.
-use Rattle.std.proofs.Common.{◌≡◌, ℕ, ◌+◌, ◌*◌, ◌%◌, ◌<◌, ◌≤◌, List, []}
-use Rattle.std.proofs.Common.{◌++◌, take, refl, sym, ◌∙◌, ap, ap₂, arith, add-one, append-nil}
+use Rattle.std.proofs.Common.{◌≡◌, ℕ, ◌+◌, ◌*◌, ◌%◌, ◌<◌, ◌≤◌, List, [], ◌++◌, take, refl, sym, ◌∙◌, ap, ap₂, arith, add-one, append-nil}
 use Rattle.std.specs.Int.{to_le_bytes, w64, div_ceil}
 use Rattle.std.proofs.lemmas.List.{take-take}
 use Rattle.bit_lists.specs.Places.{joined}

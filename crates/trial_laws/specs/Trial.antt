@@ -2,8 +2,7 @@
 --     trial_capture seed count p    the capture that is received
 --     trial_summary seed count p    what the summary tells
 --     trial_text seed count p       its seven lines
-use Rattle.std.specs.Prelude.{ℕ, ◌+◌, ◌-◌, ◌*◌, ◌%◌, ◌^◌, Bool, true, false, ◌&&◌, if◌then◌else◌, min, List, [], ◌∷◌, ◌++◌, length, filter_map}
-use Rattle.std.specs.Prelude.{sum_by, codes, decimal, bytes_eq, unwrap_or}
+use Rattle.std.specs.Prelude.{ℕ, ◌+◌, ◌-◌, ◌*◌, ◌%◌, ◌^◌, Bool, true, false, ◌&&◌, if◌then◌else◌, min, List, [], ◌∷◌, ◌++◌, length, filter_map, sum_by, codes, decimal, bytes_eq, unwrap_or}
 use Rattle.mac_columns.specs.declared.column.Column.{Column}
 use Rattle.mac_columns.specs.Items.{item_frame}
 use Rattle.pcs_bits.specs.Captures.{Capture}

@@ -5,8 +5,7 @@ use Rattle.pcs_io.specs.SymbolAnswers.{content}
 use Rattle.pcs_late.specs.Kr.{kr_text}
 use Rattle.pcs_late.proofs.KrLemmas.{no-lines, one-line}
 use Rattle.pcs_drive.proofs.WritingLemmas.{wrote-none, front-more}
-use Rattle.pcs_drive.proofs.Copying.{copied-start, copied-kept, copied-line, copied-done, copied-fault, line-failed, end-failed}
-use Rattle.pcs_drive.proofs.Copying.{fault-failed, next-line, next-end, next-fault, read-failed, rose-after}
+use Rattle.pcs_drive.proofs.Copying.{copied-start, copied-kept, copied-line, copied-done, copied-fault, line-failed, end-failed, fault-failed, next-line, next-end, next-fault, read-failed, rose-after}
 use Rattle.pcs_late.proofs.codewords.convert.Goals as goal
 
 pub loop-lines-init : goal.loop-lines-init

@@ -5,8 +5,7 @@ use Rattle.pcs_io.specs.TextAnswers.{content}
 use Rattle.pcs_late.specs.Packing.{records_text}
 use Rattle.pcs_late.proofs.Packed.{no-frames, one-frame}
 use Rattle.pcs_drive.proofs.WritingLemmas.{wrote-none}
-use Rattle.pcs_drive.proofs.Copying.{copied-start, copied-kept, copied-line, copied-done, copied-fault, line-failed, end-failed}
-use Rattle.pcs_drive.proofs.Copying.{fault-failed, next-line, next-end, next-fault, read-failed, rose-after}
+use Rattle.pcs_drive.proofs.Copying.{copied-start, copied-kept, copied-line, copied-done, copied-fault, line-failed, end-failed, fault-failed, next-line, next-end, next-fault, read-failed, rose-after}
 use Rattle.pcs_late.proofs.packer.convert.Goals as goal
 
 pub loop-lines-init : goal.loop-lines-init

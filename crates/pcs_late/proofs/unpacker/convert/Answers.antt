@@ -3,8 +3,7 @@ use Rattle.std.proofs.lemmas.Result.{err_from_is_err_and}
 use Rattle.pcap_frames.specs.Histories.{Nexts, content}
 use Rattle.pcs_drive.specs.Seen.{seen}
 use Rattle.pcs_drive.proofs.Copying.{rose-after}
-use Rattle.pcs_late.proofs.Unpacked.{unpacking-start, header-fault, unpacking-kept, unpacking-frame, unpacked-done, unpacked-fault}
-use Rattle.pcs_late.proofs.Unpacked.{end-failed, frame-failed, fault-failed, release-failed, read-failed}
+use Rattle.pcs_late.proofs.Unpacked.{unpacking-start, header-fault, unpacking-kept, unpacking-frame, unpacked-done, unpacked-fault, end-failed, frame-failed, fault-failed, release-failed, read-failed}
 use Rattle.pcs_late.proofs.unpacker.convert.Goals as goal
 
 pub returns-in-Err : goal.returns-in-Err
