@@ -6,10 +6,7 @@ use Rattle.field_base.specs.Poly.{value}
 use Rattle.rs_decode.specs.Repair.{back_power, is_root, roots_below}
 use Rattle.rs_decode.proofs.Repair.{root_test}
 use Rattle.rs_decode.proofs.Search.{roots_from, found_first, found_root, found_other, found_enough, found_past, found_last}
-use Rattle.rs_decode.proofs.roots.root_places.Goals.{then-is_zero+then-place-count+then-len-lt16, else-is_zero}
-use Rattle.rs_decode.proofs.roots.root_places.Goals.{else-is_zero-via-then-is_zero+then-place-count+else-len-lt16}
-use Rattle.rs_decode.proofs.roots.root_places.Goals.{else-is_zero-via-then-is_zero+else-place-count}
-use Rattle.rs_decode.proofs.roots.root_places.Goals.{else-is_zero-via-else-is_zero}
+use Rattle.rs_decode.proofs.roots.root_places.Goals.{then-is_zero+then-place-count+then-len-lt16, else-is_zero, else-is_zero-via-then-is_zero+then-place-count+else-len-lt16, else-is_zero-via-then-is_zero+else-place-count, else-is_zero-via-else-is_zero}
 use Rattle.rs_decode.proofs.roots.root_places.Goals as goal
 
 pub loop-row-init : goal.loop-row-init

@@ -1,5 +1,4 @@
-use Rattle.std.proofs.Common.{◌≡◌, ◌≢◌, ◌<◌, ◌+◌, ◌-◌, ◌*◌, ◌∙◌, [], refl, sym, ap, length, arith, length-set, get_or-set_same, get_or-set_other}
-use Rattle.std.proofs.Common.{below_more}
+use Rattle.std.proofs.Common.{◌≡◌, ◌≢◌, ◌<◌, ◌+◌, ◌-◌, ◌*◌, ◌∙◌, [], refl, sym, ap, length, arith, length-set, get_or-set_same, get_or-set_other, below_more}
 use Rattle.bit_lists.specs.Bits.{all_bits}
 use Rattle.bit_lists.proofs.Facts.{length-all_bits}
 use Rattle.bit_lists.proofs.ByPlaces.{flat-nil}
