@@ -13,7 +13,7 @@ use Rattle.pcs_io.proofs.BeatPieces.{is-piece}
 use Rattle.pcs_io.proofs.LineLaws.{begins-more, refused-more}
 use Rattle.pcs_drive.specs.Seen.{Seen, Took, TookAll, ReadFailed, WriteFailed}
 use Rattle.pcs_drive.specs.LineCommand.{Converted, IsRefused}
-use Rattle.pcs_drive.specs.CaptureCommand.{BeatsText, TextBehind, TookAllBeatsBy, FromBeatsBy, FromFileBy, IsNoHeaderBy, outcome_at_end}
+use Rattle.pcs_drive.specs.CaptureCommand.{TextBehind, TookAllBeatsBy, FromBeatsBy, FromFileBy, IsNoHeaderBy, outcome_at_end}
 use Rattle.pcs_drive.specs.Deciding.{IsSettled, Given, Decides, LinesDecide, BeatsDecide}
 use Rattle.pcs_drive.specs.declared.outcome.Outcome.{Outcome}
 use Rattle.pcs_drive.specs.declared.outcome.Outcome.TheVariants.{Done, ReadFault, WriteFault, NoMemory, BadLine, BadHeader, TooTight, Cut, NotAligned, TooLong}

@@ -1,14 +1,12 @@
 -- Octets that begin with the header of a file of levels.
-use Rattle.std.proofs.Common.{◌≡◌, ℕ, ◌+◌, ◌<◌, ◌≤◌, List, [], ◌++◌, length, take, drop, Result, Ok, Err, true, false, sym, ◌∙◌, ap, subst, arith, inl, inr, append-nil, length-drop, length-append}
-use Rattle.std.specs.Prelude.{nat_le}
+use Rattle.std.proofs.Common.{◌≡◌, ℕ, ◌+◌, ◌<◌, ◌≤◌, List, [], ◌++◌, length, take, drop, Result, Ok, Err, sym, ◌∙◌, ap, subst, arith, inl, inr, append-nil, length-drop, length-append}
 use Rattle.std.specs.List.{flat_map}
-use Rattle.std.proofs.lemmas.Bool.{cases_lt, le-leb, lt-leb}
-use Rattle.std.proofs.lemmas.List.{take-append-le}
+use Rattle.std.proofs.lemmas.Bool.{cases_lt, le-leb}
 use Rattle.pcs_io.specs.Beats.{beat_at}
 use Rattle.pcs_io.specs.Grammars.{Begins}
 use Rattle.pcs_io.specs.LevelsHeaders.{levels_header_of}
 use Rattle.pcs_io.specs.Histories as lines
-use Rattle.pcs_io.specs.Captures.{Whole, Wrong, Short, settled, levels_header_at, History, Going, BeatsState, Stands, StandsAt}
+use Rattle.pcs_io.specs.Captures.{Whole, Short, settled, levels_header_at, History, Going, BeatsState, Stands, StandsAt}
 use Rattle.pcs_io.specs.declared.levels_header.LevelsHeader.{LevelsHeader}
 use Rattle.pcs_io.specs.declared.header.BadHeader.{BadHeader}
 use Rattle.pcs_io.specs.declared.beats.Front.TheVariants as front

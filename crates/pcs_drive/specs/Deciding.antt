@@ -1,11 +1,11 @@
 -- That the input decides: two runs that are given the same input end in the same way, but where a stream failed or there was no memory. So
 -- each refusal comes exactly where its cause is.
-use Rattle.std.specs.Prelude.{◌≡◌, ◌≢◌, ℕ, ◌≤◌, ◌^◌, List, length, Option, Some}
-use Rattle.pcs_io.specs.Grammars.{LineAt, IsGrammar}
+use Rattle.std.specs.Prelude.{◌≡◌, ◌≢◌, ℕ, ◌≤◌, ◌^◌, List, length, Some}
+use Rattle.pcs_io.specs.Grammars.{LineAt}
 use Rattle.pcs_io.specs.Captures.{FrontAt}
 use Rattle.pcs_drive.specs.Seen.{Seen}
 use Rattle.pcs_drive.specs.LineCommand.{Converted}
-use Rattle.pcs_drive.specs.CaptureCommand.{BeatsText, TextBehind, CaptureText, LevelsText, FromBeatsBy, FromCapture, FromLevels}
+use Rattle.pcs_drive.specs.CaptureCommand.{BeatsText, CaptureText, LevelsText, FromBeatsBy, FromCapture, FromLevels}
 use Rattle.pcs_drive.specs.declared.outcome.Outcome.{Outcome}
 use Rattle.pcs_drive.specs.declared.outcome.Outcome.TheVariants.{ReadFault, WriteFault, NoMemory}
 
