@@ -1,7 +1,6 @@
 //! What holds of the code: laws, each the contract of an empty function. They are those of any code
 //! over the field, with 14 roots and 528 symbols.
-ghost use Rattle.kr_code.specs.Laws.{ShortMembersAreDistant, OneShortMemberIsNear};
-ghost use Rattle.kr_code.specs.Laws.{ShortNearIsTheMember, ShortCodedIsTheMember};
+ghost use Rattle.kr_code.specs.Laws.{ShortMembersAreDistant, OneShortMemberIsNear, ShortNearIsTheMember, ShortCodedIsTheMember};
 
 /// Any two different short members differ in at least 15 places.
 pub fn short_members_are_distant()

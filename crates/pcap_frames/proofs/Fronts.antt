@@ -48,9 +48,6 @@ record-split order short front behind whole =
     cond-false (nat_lt (length (front ++ behind)) 16) _ _ (not-less _ _ (omega (arith, length-append front behind)))
     ∙ ap₂ frame_at (length-front order short front behind (omega arith)) (rest-behind 16 front behind whole)
 
-pub record-open : (order : Order) (short : Bool) (octets : List ℕ) → length octets < 16 → record_at order short octets ≡ Open
-record-open order short octets few = cond-true (nat_lt (length octets) 16) _ _ (less _ _ few)
-
 pub frame-whole : (count : ℕ) (piece rest : List ℕ) → length piece ≡ count → frame_at (Ok count) (piece ++ rest) ≡ Record piece rest
 frame-whole count piece rest whole =
     cond-false (nat_lt (length (piece ++ rest)) count) _ _ (not-less _ _ (omega (arith, length-append piece rest)))

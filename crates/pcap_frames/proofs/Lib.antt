@@ -1,8 +1,6 @@
-pub mod Rows
 pub mod Written
 pub mod Readings
 pub mod Fronts
 pub mod Pieces
 pub mod Told
 pub mod HeaderTold
-pub mod Whole

@@ -70,7 +70,7 @@ verdict number Open true true = BadLine number NoEnd
 verdict number Open true false = Done
 verdict number Open false some = TooLong
 
-nothing-left : (rest : List ℕ) → length rest ≤ 0 → rest ≡ []
+pub nothing-left : (rest : List ℕ) → length rest ≤ 0 → rest ≡ []
 nothing-left [] few = refl
 nothing-left (x ∷ rest) few = absurd (omega (arith, few))
 

@@ -4,4 +4,5 @@ pub mod Demuxed
 pub mod Carried
 pub mod Packed
 pub mod Unpacked
+pub mod FilesDecide
 pub mod WholeFiles

@@ -33,6 +33,8 @@ use Rattle.pcs_late.specs.Multiplexing.{multiplexed}
 use Rattle.pcs_late.specs.Demultiplexing.{demultiplexed}
 use Rattle.pcs_late.specs.declared.pcap_outcome.PcapOutcome.{PcapOutcome}
 use Rattle.pcs_late.specs.declared.pcap_outcome.PcapOutcome.TheVariants.{Usual}
+use Rattle.pcs_late.specs.Laws.{IsSettledPcap}
+use Rattle.pcs_late.proofs.FilesDecide.{pcap-decides}
 use Rattle.pcs_late.proofs.WholeFiles.{pcap-complete}
 use Rattle.pcs_top.specs.Notes.{Heard, Noted}
 use Rattle.pcs_top.specs.Texts.{block_text, unblock_text}
@@ -277,6 +279,9 @@ tried-decide options input one other first second g h a b s t = done one first a
 by-status : (outcome : Outcome) (status : Status) → status ≡ status_of outcome → IsSettledStatus status → IsSettled outcome
 by-status outcome status is s = record { reads = λ e. s.reads (is ∙ ap status_of e); writes = λ e. s.writes (is ∙ ap status_of e); memory = λ e. s.memory (is ∙ ap status_of e) }
 
+by-pcap-status : (outcome : PcapOutcome) (status : Status) → status ≡ status_of_pcap outcome → IsSettledStatus status → IsSettledPcap outcome
+by-pcap-status outcome status is s = record { reads = λ e. s.reads (is ∙ ap status_of_pcap e); writes = λ e. s.writes (is ∙ ap status_of_pcap e); memory = λ e. s.memory (is ∙ ap status_of_pcap e) }
+
 with-memory : (Table : Seen → Outcome → Type 0) (input : List ℕ) → Decides input Table → Decides input (OrNoMemory Table)
 with-memory Table input decide one other first second g h (inl a) (inl b) s t = decide one other first second g h a b s t
 with-memory Table input decide one other first second g h (inr none) b s t = absurd (s.memory none.0)
@@ -310,7 +315,8 @@ module _ (watchers : List Watched) (input : List ℕ) (one other : Seen) (first 
   settled-answers (Ok (command.Migrate options)) a b = one-of-captures (migrated options.skew) a b
   settled-answers (Ok (command.Mux options)) a b = one-of-captures (multiplexed options.precode) a b
   settled-answers (Ok (command.Demux options)) a b = one-outcome _ (files-decide levels_header_at levels-stay (demultiplexed options.phase) input) a b
-  settled-answers (Ok (command.Pcap options)) a b = a.0 ∙ sym b.0
+  settled-answers (Ok (command.Pcap options)) (x, is, a) (y, so, b) =
+      is ∙ ap status_of_pcap (pcap-decides options.gap options.short options.write input short one other x y g h a b (by-pcap-status x first is s) (by-pcap-status y second so t)) ∙ sym so
 
 pub commands-decide : CommandsDecide
 commands-decide watchers words input one other first second short g h a b s t = settled-answers watchers input one other first second short g h s t words a b

@@ -1,13 +1,11 @@
 -- The level beats of some beats, and of more beats behind them.
-use Rattle.std.proofs.Common.{◌≡◌, ℕ, zero, suc, ◌+◌, ◌*◌, ◌/◌, ◌%◌, ◌<◌, Bool, true, false, List, [], ◌∷◌, ◌++◌, length, get_or, refl, sym, ap, ap₂, ◌∙◌}
-use Rattle.std.proofs.Common.{arith, inl, inr, subst, append-nil, length-append}
+use Rattle.std.proofs.Common.{◌≡◌, ℕ, zero, suc, ◌+◌, ◌*◌, ◌/◌, ◌%◌, ◌<◌, Bool, true, false, List, [], ◌∷◌, ◌++◌, length, get_or, refl, sym, ap, ap₂, ◌∙◌, arith, inl, inr, subst, append-nil, length-append}
 use Rattle.std.proofs.lemmas.Bool.{cases_lt}
 use Rattle.std.proofs.lemmas.List.{append_assoc, get_or_append_left, get_or-append_right, get_or_past}
 use Rattle.bit_lists.specs.Bits.{all_bits}
 use Rattle.bit_lists.specs.Places.{for_each}
 use Rattle.bit_lists.proofs.ByPlaces.{length-for_each, at-for_each, by_places, same_for_each}
-use Rattle.pma_link.specs.Levels.{by_turns, stream, lane_of, gray_numbers, precoded, last_of, coded, levels, four, eight, levels_in, octet_at, level_beat}
-use Rattle.pma_link.specs.Levels.{level_beats}
+use Rattle.pma_link.specs.Levels.{by_turns, stream, lane_of, gray_numbers, precoded, last_of, coded, levels, four, eight, levels_in, octet_at, level_beat, level_beats}
 use Rattle.pma_link.specs.LevelLaws.{AreLevels, IsBeat, LevelBeatsHold, AreAsMany, LevelBeatsGoOn}
 use Rattle.pma_link.proofs.Streams.{by_turns-append, gray_numbers-append, coded-append, length-precoded, small_precoded, small_grays}
 use Rattle.pma_link.proofs.Phases.{same_lengths, length-lane_of}

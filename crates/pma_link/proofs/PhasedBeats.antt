@@ -1,6 +1,5 @@
 -- The beats of phased lanes, and those that a demultiplexer gives.
-use Rattle.std.proofs.Common.{◌≡◌, ℕ, ◌+◌, ◌-◌, ◌*◌, ◌/◌, ◌%◌, ◌<◌, ◌≤◌, Bool, true, false, List, [], ◌∷◌, ◌++◌, length, map, take, get_or}
-use Rattle.std.proofs.Common.{refl, sym, ap, ap₂, ◌∙◌, subst, arith, length-append}
+use Rattle.std.proofs.Common.{◌≡◌, ℕ, ◌+◌, ◌-◌, ◌*◌, ◌/◌, ◌%◌, ◌<◌, ◌≤◌, Bool, true, false, List, [], ◌∷◌, ◌++◌, length, map, take, get_or, refl, sym, ap, ap₂, ◌∙◌, subst, arith, length-append}
 use Rattle.std.specs.List.{range_with_len}
 use Rattle.std.specs.Int.{bit_at}
 use Rattle.std.proofs.lemmas.List.{take_at, get_or-take, length-take-le, get_or_append_left, get_or-append_right}
@@ -12,8 +11,7 @@ use Rattle.bit_lists.proofs.ByPlaces.{length-for_each, at-for_each, by_places, s
 use Rattle.bit_lists.proofs.Facts.{length-bits, number-bits, get_or-bits, get_or-all_bits}
 use Rattle.bit_lists.proofs.Lists.{for_each-more}
 use Rattle.bit_lists.proofs.Extremes.{slice_index-map}
-use Rattle.pma_link.specs.Levels.{four, eight, bits_of_grays, uncoded, last_of, levels_in, stream_in, phased_lane}
-use Rattle.pma_link.specs.Levels.{phased_beat, phased_beats, given_beats, level_beats}
+use Rattle.pma_link.specs.Levels.{four, eight, bits_of_grays, uncoded, last_of, levels_in, stream_in, phased_lane, phased_beat, phased_beats, given_beats, level_beats}
 use Rattle.pma_link.specs.Histories.{given}
 use Rattle.pma_link.specs.LevelLaws.{IsBeat, GivenBeatsGoOn, PhasedBeatsEnd, GivenBeatsStay, BeatsGiveBack}
 use Rattle.pma_link.proofs.Streams.{bits_of_grays-append, length-decoded, uncoded-append}

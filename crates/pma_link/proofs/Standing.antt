@@ -1,7 +1,5 @@
 -- One more beat, or one more level beat, behind those that were taken.
-use Rattle.std.proofs.Common.{◌≡◌, ℕ, zero, suc, ◌+◌, ◌-◌, ◌*◌, ◌/◌, ◌%◌, ◌<◌, ◌≤◌, Bool, List, [], ◌∷◌, ◌++◌, Option, Some, None, length, map}
-use Rattle.std.proofs.Common.{get_or, take, drop, replicate, refl, sym, ap, ap₂, ◌∙◌, inl, inr, arith, append-nil, length-append, length-take}
-use Rattle.std.proofs.Common.{length-drop, get_or-take, get_or-drop}
+use Rattle.std.proofs.Common.{◌≡◌, ℕ, zero, suc, ◌+◌, ◌-◌, ◌*◌, ◌/◌, ◌%◌, ◌<◌, ◌≤◌, Bool, List, [], ◌∷◌, ◌++◌, Option, Some, None, length, map, get_or, take, drop, replicate, refl, sym, ap, ap₂, ◌∙◌, inl, inr, arith, append-nil, length-append, length-take, length-drop, get_or-take, get_or-drop}
 use Rattle.std.specs.Prelude.{flat_map}
 use Rattle.std.specs.Int.{bit_at}
 use Rattle.std.proofs.lemmas.Bool.{cases_lt}
@@ -12,8 +10,7 @@ use Rattle.bit_lists.specs.Places.{for_each}
 use Rattle.bit_lists.proofs.ByPlaces.{length-for_each, at-for_each, by_places}
 use Rattle.bit_lists.proofs.Facts.{all_bits-nil, all_bits-cons, all_bits-append, length-bits, get_or-bits}
 use Rattle.std.proofs.lemmas.Nat.Bits.{bit_at_lowest}
-use Rattle.pma_link.specs.Levels.{lane_of, by_turns, stream, gray_numbers, bits_of_grays, last_of, coded, uncoded, levels, eight, levels_in}
-use Rattle.pma_link.specs.Levels.{stream_in, phased_lane}
+use Rattle.pma_link.specs.Levels.{lane_of, by_turns, stream, gray_numbers, bits_of_grays, last_of, coded, uncoded, levels, eight, levels_in, stream_in, phased_lane}
 use Rattle.pma_link.specs.Histories.{last_level, AreBeats, IsLast, given, turned}
 use Rattle.pma_link.proofs.Streams.{by_turns-append, gray_numbers-append, bits_of_grays-append, coded-append, uncoded-append, last_of-append}
 use Rattle.pma_link.proofs.Pairs.{last-eight}

@@ -1,6 +1,5 @@
 -- Streams by turns, their Gray numbers, precoding and back.
-use Rattle.std.proofs.Common.{◌≡◌, ℕ, zero, suc, ◌+◌, ◌-◌, ◌*◌, ◌%◌, ◌<◌, Bool, true, false, List, [], ◌∷◌, ◌++◌, length, get_or, refl, sym, ap, ap₂}
-use Rattle.std.proofs.Common.{◌∙◌, arith}
+use Rattle.std.proofs.Common.{◌≡◌, ℕ, zero, suc, ◌+◌, ◌-◌, ◌*◌, ◌%◌, ◌<◌, Bool, true, false, List, [], ◌∷◌, ◌++◌, length, get_or, refl, sym, ap, ap₂, ◌∙◌, arith}
 use Rattle.bit_lists.specs.Bits.{IsBits}
 use Rattle.pma_link.specs.Levels.{by_turns, gray_of, first_of, second_of, gray_numbers, bits_of_grays, IsPrecoded, precoded, decoded, last_of, coded, uncoded}
 

@@ -1,14 +1,11 @@
 -- The codeword with a given message: there is one, which the register gives, and no other. And the laws of codewords that are near.
-use Rattle.std.proofs.Common.{◌≡◌, ℕ, zero, suc, ◌+◌, List, [], ◌∷◌, ◌++◌, length, take, drop, get_or}
-use Rattle.std.proofs.Common.{replicate, refl, sym, ap, ◌∙◌, subst, arith, ◌<◌, ◌≤◌, ◌⊎◌, inl, inr, None}
+use Rattle.std.proofs.Common.{◌≡◌, ℕ, zero, suc, ◌+◌, List, [], ◌∷◌, ◌++◌, length, take, drop, get_or, replicate, refl, sym, ap, ◌∙◌, subst, arith, ◌<◌, ◌≤◌, ◌⊎◌, inl, inr, None}
 use Rattle.std.proofs.lemmas.List.{length-take, take-append-drop}
 use Rattle.std.proofs.lemmas.Simd.{get_or-replicate, length-replicate}
 use Rattle.gf1024.specs.Symbol.{Symbol, gf, zero_symbol, sum_of}
 use Rattle.rs_code.specs.Code.{IsCodeword, distance}
 use Rattle.rs_code.specs.Near.{codeword_near, codeword_of}
-use Rattle.rs_code.specs.Laws.{CodewordsAreDistant, OneIsNear, NearIsTheCodeword, CodedIsTheCodeword}
-use Rattle.rs_code.specs.Laws.{MembersAreDistant, AtMostOneIsNear, NearIsTheMember, CodedIsTheMember}
-use Rattle.rs_code.specs.Laws.{ValuesOfPolynomials}
+use Rattle.rs_code.specs.Laws.{CodewordsAreDistant, OneIsNear, NearIsTheCodeword, CodedIsTheCodeword, MembersAreDistant, AtMostOneIsNear, NearIsTheMember, CodedIsTheMember, ValuesOfPolynomials}
 use Rattle.field_base.proofs.Value.{value_plus, value_times, slope_times}
 use Rattle.gf1024.proofs.FieldLaws.{laws}
 use Rattle.std.proofs.lemmas.Bool.{cases_lt}

@@ -1,11 +1,8 @@
 -- The feedback register against the values at the roots.
-use Rattle.std.proofs.Common.{◌≡◌, ℕ, zero, suc, ◌+◌, ◌-◌, ◌<◌, ◌≤◌, List, [], ◌∷◌, ◌++◌}
-use Rattle.std.proofs.Common.{length, take, drop, get_or, refl, sym, ap, ap₂, ◌∙◌, arith}
-use Rattle.std.proofs.lemmas.List.{length-take, take-append-drop}
-use Rattle.std.proofs.lemmas.List.{length-drop, length-append, get_or-take}
+use Rattle.std.proofs.Common.{◌≡◌, ℕ, zero, suc, ◌+◌, ◌-◌, ◌<◌, ◌≤◌, List, [], ◌∷◌, ◌++◌, length, take, drop, get_or, refl, sym, ap, ap₂, ◌∙◌, arith}
+use Rattle.std.proofs.lemmas.List.{length-take, take-append-drop, length-drop, length-append, get_or-take}
 use Rattle.std.proofs.Math.Seq.{drop-cons}
-use Rattle.gf1024.specs.Symbol.{Symbol}
-use Rattle.gf1024.specs.Symbol.{gf, zero_symbol, sum_of, product_of, alpha}
+use Rattle.gf1024.specs.Symbol.{Symbol, gf, zero_symbol, sum_of, product_of, alpha}
 use Rattle.gf1024.proofs.FieldLaws.{laws}
 use Rattle.field_base.specs.Field.{Field, Laws, power}
 use Rattle.field_base.specs.Poly.{value, plus, scaled}

@@ -1,6 +1,5 @@
 -- The generator, its multiples and the powers of alpha: each table is what it stands for.
-use Rattle.std.proofs.Common.{◌≡◌, ℕ, zero, suc, ◌%◌, ◌<◌, Bool, true, List, [], ◌∷◌, ◌++◌, length, map, drop}
-use Rattle.std.proofs.Common.{get_or, ◌==◌, bit_xor, refl, sym, ap, ◌∙◌}
+use Rattle.std.proofs.Common.{◌≡◌, ℕ, zero, suc, ◌%◌, ◌<◌, Bool, true, List, [], ◌∷◌, ◌++◌, length, map, drop, get_or, ◌==◌, bit_xor, refl, sym, ap, ◌∙◌}
 use Rattle.std.proofs.lemmas.Bool.{eqb-true}
 use Rattle.gf1024.specs.Symbol.{Symbol, gf, one_symbol, sum_of, product_of, symbol, alpha}
 use Rattle.gf1024.specs.Word.{product, reduced, times_low}

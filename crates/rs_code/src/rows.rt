@@ -1,6 +1,5 @@
 //! Multiples of the remainders of x^30 to x^33 by the generator, from tables.
-ghost use Rattle.std.specs.Prelude.{◌≡◌, slice_index};
-ghost use Rattle.std.specs.Prelude.{[], slice_index_or, map};
+ghost use Rattle.std.specs.Prelude.{◌≡◌, slice_index, [], slice_index_or, map};
 ghost use Rattle.gf1024.specs.Symbol.{gf, symbol};
 ghost use Rattle.field_base.specs.Poly.{scaled};
 ghost use Rattle.rs_code.specs.Register.{AreMultiples, first_row};
