@@ -72,7 +72,8 @@ fn writes_pcap_files(rt: HostRuntime) -> Result<(), Fail> {
     let file = hex::decode(alloc, [LITTLE, THREE, "010203"].concat(alloc)?)?;
     for (text, length, note) in &WRITTEN {
         let ran = run_over(alloc, "pcap --write", text.as_bytes(), 7)?;
-        assert_eq!(rt; ran.sink.held(), &file[..*length]);
+        assert!(rt; file.starts_with(ran.sink.held()));
+        assert_eq!(rt; ran.sink.held().len(), *length);
         assert_eq!(rt; ran.notes.held(), note.as_bytes());
     }
     // The header is written before a read, also one that fails.
@@ -80,7 +81,8 @@ fn writes_pcap_files(rt: HostRuntime) -> Result<(), Fail> {
     let sink = MemSink::new(alloc, 100, 7, Vec::new(alloc))?;
     let notes = MemSink::new(alloc, 64, 7, Vec::new(alloc))?;
     let ran = run_on(alloc, "pcap --write", source, sink, notes)?;
-    assert_eq!(rt; ran.sink.held(), &file[..24]);
+    assert!(rt; file.starts_with(ran.sink.held()));
+    assert_eq!(rt; ran.sink.held().len(), 24);
     assert_eq!(rt; ran.status.number(), 3);
     Ok(())
 }
