@@ -50,7 +50,7 @@ verdict Open (x ∷ rest) count size = cond (nat_lt size (2 ^ 40)) (BadRecord (c
 
 module _ (short : Bool) (input : List ℕ) where
   -- the records of the input stop, and that tells the outcome
-  record Stops (outcome : PcapOutcome) : Type 0 where
+  pub record Stops (outcome : PcapOutcome) : Type 0 where
     pub order : Order
     pub frames : List (List ℕ)
     pub rest : List ℕ

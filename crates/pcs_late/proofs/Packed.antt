@@ -1,9 +1,10 @@
 -- Frame text that becomes a pcap file.
-use Rattle.std.proofs.Common.{◌≡◌, ℕ, ◌≤◌, inl, inr, List, [], ◌∷◌, ◌++◌, take, Option, Some, None, IfSome, refl, sym, ◌∙◌, ap, subst, append_assoc, append-nil}
+use Rattle.std.proofs.Common.{◌≡◌, ℕ, ◌≤◌, inl, inr, List, [], ◌∷◌, ◌++◌, take, Option, Some, None, IfSome, refl, sym, ◌∙◌, ap, subst, append_assoc, append-nil, arith}
 use Rattle.std.specs.Io.KnownBytes.{Appends}
 use Rattle.std.proofs.lemmas.List.Concat.{flat_map-append}
 use Rattle.pcs_io.specs.Octets.{AppendsFront, TakesWhereTold}
 use Rattle.pcs_io.specs.TextLines.{text_line_at}
+use Rattle.pcs_io.proofs.Progress.{fresh-near}
 use Rattle.pcs_io.proofs.Told.{consumes-none, takes-consumed}
 use Rattle.pcap_frames.specs.Pcap.{header_octets, pcap_octets, record_octets}
 use Rattle.pcs_io.specs.declared.fault.Kind.{Kind}
@@ -68,8 +69,8 @@ module _ (seen : Seen) (mid : Option (List ℕ)) (writes : ℕ) (later : seen.wr
   packed Done c = let w = both c.1 c.5 in record { converted = (c.0, c.1, took-all c.0 c.2, c.3, c.4, w.0); header_first = inr w.1 }
   packed ReadFault c = let w = both c.1 c.5 in record { converted = (c.0, c.1, c.2, c.3, c.4, w.0); header_first = inr w.1 }
   packed WriteFault c =
-      let w = front-behind seen.held_before mid seen.held_after header_octets (records_text c.1) (pcap_octets c.1) (behind c.1) a c.6 in
-      record { converted = (c.0, c.1, c.2, rose-after seen.writes_before writes seen.writes_after later c.3, c.4, c.5, w.0); header_first = inr w.1 }
+      let w = front-behind seen.held_before mid seen.held_after header_octets (records_text c.1) (pcap_octets c.1) (behind c.1) a c.7 in
+      record { converted = (c.0, c.1, c.2, rose-after seen.writes_before writes seen.writes_after later c.3, c.4, c.5, c.6, w.0); header_first = inr w.1 }
   packed NoMemory c = absurd c
   packed (BadLine number kind) c = let w = both c.1 c.4 in record { converted = (c.0, c.1, c.2, refused c.0 c.1 kind c.3, w.0); header_first = inr w.1 }
   packed (BadHeader bad) c = absurd c
@@ -89,6 +90,7 @@ header-failed seen same rose front = record {
     rose,
     subst (λ o. TakesWhereTold seen.left_before o []) (sym same) (takes-consumed seen.left_before seen.left_before [] (consumes-none seen.left_before)),
     refl,
+    fresh-near text_line_at [] (omega arith),
     front-more seen.held_before seen.held_after header_octets [] front,
   );
   header_first = inl same;
