@@ -1,15 +1,25 @@
 #!/bin/bash
-# Makes a pcap file of 60 frames with Wireshark's tools, turns it with the built program into frame lines,
-# sends these over lanes and back, and writes the frames into a pcap file again. Looks whether the lines
-# are those of the frames, and whether tshark and capinfos read in both files the same frames.
+# Sends a pcap file of a hundred frames of 1514 octets over the lanes and back, and looks whether the file
+# is the same. Then makes one of 60 frames with Wireshark's tools, turns it with the built program into
+# frame lines, sends these over lanes and back, and writes the frames into a pcap file again. Looks whether
+# the lines are those of the frames, and whether tshark and capinfos read in both files the same frames.
 set -eu
 cd "$(dirname "$0")/.."
 program=${1:-$PWD/crates/pcs_cli/out/pcs_cli}
+work=$(mktemp -d)
+trap 'rm -rf "$work"' EXIT
+
+for number in $(seq 100); do
+    printf '%04x' "$number" && printf '5a%.0s' $(seq 1512) && echo
+done | "$program" pcap --write > "$work/hundred.pcap"
+"$program" pcap < "$work/hundred.pcap" | "$program" encode | "$program" decode | "$program" pcap --write |
+    cmp - "$work/hundred.pcap"
+[ "$(stat -c %s "$work/hundred.pcap")" = $((24 + 100 * 1530)) ]
+echo "100 frames of 1514 octets come back"
+
 for tool in text2pcap editcap tshark capinfos od; do
     command -v "$tool" > /dev/null || { echo "packets: no $tool here"; exit 0; }
 done
-work=$(mktemp -d)
-trap 'rm -rf "$work"' EXIT
 
 for number in $(seq 60); do
     head -c $((14 + number * 25)) "$program" | tail -c $((13 + number * 24)) > "$work/frame"
