@@ -11,6 +11,8 @@ pub enum Input {
     Symbols,
     Capture,
     Levels,
+    Packets,
+    Text,
     Nothing,
 }
 
@@ -18,7 +20,7 @@ pub enum Input {
 pub type Row = (&'static str, Input, usize, usize);
 
 /// Where frames are read, a read gives a line.
-pub const ROWS: [Row; 12] = [
+pub const ROWS: [Row; 14] = [
     ("blocks", Input::Frames, 35, 500),
     (
         "encode --period 1 --lead 1 --tail 1",
@@ -40,12 +42,15 @@ pub const ROWS: [Row; 12] = [
     ("migrate --skew 5", Input::Capture, 500, 500),
     ("mux --precode", Input::Capture, 500, 500),
     ("demux --phase 1", Input::Levels, 500, 500),
+    ("pcap", Input::Packets, 50, 20),
+    ("pcap --write", Input::Text, 33, 30),
     ("trial 7 0", Input::Nothing, 500, 9),
 ];
 
 /// The octets of an input.
 pub fn octets_of(alloc: Global, input: Input) -> Result<Vec<u8>, AllocError> {
     let lines = "2 00112233445566778899aabbccddeeff\n".repeat(alloc, 60)?;
+    let text = "00112233445566778899aabbccddeeff\n".repeat(alloc, 60)?;
     match input {
         Input::Frames => Ok(lines.into_bytes()),
         Input::Blocks => written(alloc, "blocks", lines.as_bytes()),
@@ -55,6 +60,8 @@ pub fn octets_of(alloc: Global, input: Input) -> Result<Vec<u8>, AllocError> {
         }
         Input::Capture => capture(alloc),
         Input::Levels => written(alloc, "mux", &capture(alloc)?),
+        Input::Packets => written(alloc, "pcap --write", text.as_bytes()),
+        Input::Text => Ok(text.into_bytes()),
         Input::Nothing => Ok(Vec::new(alloc)),
     }
 }
@@ -96,7 +103,10 @@ pub fn text_of(alloc: Global, row: &Row, front: &[u8]) -> Result<Vec<u8>, AllocE
     let (command, input, _, _) = row;
     let mut octets = front.to_vec(alloc)?;
     // Lines go on with an octet that can't stand there.
-    if matches!(input, Input::Frames | Input::Blocks | Input::Symbols) {
+    if matches!(
+        input,
+        Input::Frames | Input::Blocks | Input::Symbols | Input::Text
+    ) {
         octets.push(b'x')?;
     }
     let mut text = written(alloc, command, &octets)?;
