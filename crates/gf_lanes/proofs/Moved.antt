@@ -1,5 +1,5 @@
 -- Lanes moved on by four places, and by one.
-use Rattle.std.proofs.Common.{◌≡◌, ℕ, zero, suc, ◌+◌, ◌<◌, ◌≤◌, List, [], ◌∷◌, ◌++◌, length, replicate, take, map, get_or, refl, sym, ap, ap₂, ◌∙◌, subst, arith}
+use Rattle.std.proofs.Common.{◌≡◌, ℕ, zero, suc, ◌<◌, ◌≤◌, List, ◌∷◌, take, map, get_or, sym, ap, ap₂, ◌∙◌, subst, arith}
 use Rattle.std.specs.List.{range_with_len}
 use Rattle.std.specs.Simd.Lanes.{pick_l}
 use Rattle.std.proofs.lemmas.Simd.{pick_l-range_with_len}
@@ -48,29 +48,3 @@ pub one_are : (v : ℕ) (first : Symbol) (A : List ℕ) (a : List Symbol) → v 
 one_are v first A a ev h e =
     ap₂ (λ s l. s ∷ l) (ap symbol ev ∙ symbol_of_value first)
     (ap (map symbol) (picked 31 A (omega arith) h) ∙ sym (take-map symbol 31 A) ∙ ap (take 31) e)
-
--- four numbers behind zeros
-small_behind : (n : ℕ) (B : List ℕ) → ((i : ℕ) → i < length B → get_or B i 0 < 1024)
-    → (i : ℕ) → i < n + length B → get_or (replicate n 0 ++ B) i 0 < 1024
-small_behind zero B h i less = h i (omega arith)
-small_behind (suc n) B h zero less = omega arith
-small_behind (suc n) B h (suc i) less = small_behind n B h i (omega arith)
-
-pub end_small : (p q r s : ℕ) → p < 1024 → q < 1024 → r < 1024 → s < 1024 → AreSymbols (replicate 28 0 ++ p ∷ q ∷ r ∷ s ∷ [])
-end_small p q r s hp hq hr hs = record { long = refl; small = λ i less. small_behind 28 (p ∷ q ∷ r ∷ s ∷ []) four i less }
-  where
-    four : (i : ℕ) → i < 4 → get_or (p ∷ q ∷ r ∷ s ∷ []) i 0 < 1024
-    four zero less = hp
-    four (suc zero) less = hq
-    four (suc (suc zero)) less = hr
-    four (suc (suc (suc zero))) less = hs
-    four (suc (suc (suc (suc i)))) less = absurd (omega arith)
-
-pub end_is : (p q r s : ℕ) (a b c d : Symbol) → p ≡ a.value → q ≡ b.value → r ≡ c.value → s ≡ d.value
-    → map symbol (replicate 28 0 ++ p ∷ q ∷ r ∷ s ∷ []) ≡ replicate 28 zero_symbol ++ a ∷ b ∷ c ∷ d ∷ []
-end_is p q r s a b c d ep eq er es =
-    ap (λ l. replicate 28 zero_symbol ++ l) (ap₂ (λ t l. t ∷ l) (again p a ep) (ap₂ (λ t l. t ∷ l) (again q b eq)
-    (ap₂ (λ t l. t ∷ l) (again r c er) (ap (λ t. t ∷ []) (again s d es)))))
-  where
-    again : (n : ℕ) (t : Symbol) → n ≡ t.value → symbol n ≡ t
-    again n t e = ap symbol e ∙ symbol_of_value t

@@ -1,10 +1,11 @@
 //! Thirty-two symbols at a time, in lanes of `std::simd`: each lane is the field's operation.
 #![tactic(auto)]
 
-ghost use Rattle.std.specs.Prelude.{◌≡◌, ℕ, ◌<◌, List, [], ◌∷◌, ◌++◌, length, map, take, replicate, slice_index_or};
+ghost use Rattle.std.specs.Prelude.{◌≡◌, ℕ, ◌<◌, List, ◌∷◌, length, map, take, slice_index_or};
 ghost use Rattle.gf1024.specs.Symbol.{Symbol, symbol, sum_of, product_of, zero_symbol, gf};
 ghost use Rattle.field_base.specs.Field.{total};
-ghost use Rattle.gf_lanes.specs.Lanes.{EachLane, AreSymbols, AreProducts, AreLowProducts, AreShort, AreReduced};
+ghost use Rattle.gf_lanes.specs.Lanes.{EachLane, AreSymbols, AreProducts};
+ghost use Rattle.gf_lanes.specs.Lanes.{AreLowProducts, AreShort, AreReduced};
 ghost use Rattle.gf_lanes.specs.Facts.{numbers_again};
 
 use gf1024::Gf;
@@ -61,19 +62,6 @@ impl Gf32 {
     {
         Gf::low(self.lanes[i])
     }
-}
-
-/// Four symbols in the last lanes, behind zeros.
-#[inline(always)]
-pub fn at_the_end(a: Gf, b: Gf, c: Gf, d: Gf) -> Gf32
-    ensures { result ≡ replicate 28 zero_symbol ++ a ∷ b ∷ c ∷ d ∷ [] }
-{
-    let mut numbers = [0; 32];
-    numbers[28] = a.value();
-    numbers[29] = b.value();
-    numbers[30] = c.value();
-    numbers[31] = d.value();
-    Gf32::of_numbers(numbers)
 }
 
 /// The product lane by lane. Where a loop keeps one factor, let it be `a`: `x^5` times it is then

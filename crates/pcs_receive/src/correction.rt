@@ -1,5 +1,5 @@
 // The two words of a pair, corrected.
-ghost use Rattle.std.specs.Prelude.{◌≡◌, ℕ, ◌<◌, ◌&&◌, [], Some, IsTrue, length, is_some, drop, replicate, slice_index_or};
+ghost use Rattle.std.specs.Prelude.{◌≡◌, ℕ, ◌<◌, ◌&&◌, [], Some, IsTrue, length, is_some, replicate, slice_index_or};
 ghost use Rattle.gf1024.specs.Symbol.{zero_symbol};
 ghost use Rattle.bit_lists.specs.Places.{flat, for_each};
 ghost use Rattle.pcs_receive.specs.Corrections.{IsCorrectionOf, differing};
@@ -10,56 +10,52 @@ use gf1024::Gf;
 use pcs_bits::Wide;
 use pcs_watch::Report;
 use rs_decode::correct;
-use symbol_deal::{from_messages, from_rows, to_rows};
+use symbol_deal::{Codewords, from_codewords, from_rows, to_rows};
 
 // The words of a pair, each replaced by the codeword near it where there is one, and in how many
 // places that differed.
 #[derive(Drop)]
 pub struct Corrected {
-    pub a: [Gf; 544],
-    pub b: [Gf; 544],
+    pub words: Codewords,
     pub near_a: Option<u8>,
     pub near_b: Option<u8>,
 }
 
 pub fn correct_pair(rows: &[[Gf; 16]; 68]) -> Corrected
-    ensures { IsCorrectionOf rows.now result.a result.b result.near_a result.near_b }
+    ensures { IsCorrectionOf rows.now result.words.a result.words.b result.near_a result.near_b }
 {
-    let words = from_rows(rows);
-    let mut a = words.a;
-    let mut b = words.b;
-    let near_a = correct(&mut a);
-    let near_b = correct(&mut b);
+    let mut words = from_rows(rows);
+    let near_a = correct(&mut words.a);
+    let near_b = correct(&mut words.b);
     Corrected {
-        a,
-        b,
+        words,
         near_a,
         near_b,
     }
 }
 
 // The report of a pair, from its rows and its words.
-pub fn report(number: u64, rows: &[[Gf; 16]; 68], words: &Corrected) -> Report
-    requires { IsCorrectionOf rows.now words.now.a words.now.b words.now.near_a words.now.near_b }
+pub fn report(number: u64, rows: &[[Gf; 16]; 68], corrected: &Corrected) -> Report
+    requires { IsCorrectionOf rows.now corrected.now.words.a corrected.now.words.b corrected.now.near_a corrected.now.near_b }
     ensures { result ≡ report_of number rows.now }
 {
     Report {
         pair: number,
-        a: words.near_a,
-        b: words.near_b,
-        wrong: replaced(rows, words),
+        a: corrected.near_a,
+        b: corrected.near_b,
+        wrong: replaced(rows, corrected),
     }
 }
 
 // How many symbols of each lane were replaced: of words that are codewords none.
-fn replaced(rows: &[[Gf; 16]; 68], words: &Corrected) -> [u16; 16]
-    requires { IsCorrectionOf rows.now words.now.a words.now.b words.now.near_a words.now.near_b }
+fn replaced(rows: &[[Gf; 16]; 68], corrected: &Corrected) -> [u16; 16]
+    requires { IsCorrectionOf rows.now corrected.now.words.a corrected.now.words.b corrected.now.near_a corrected.now.near_b }
     ensures { result ≡ for_each 16 (wrong_in rows.now) }
 {
-    if is_codeword(words.near_a) && is_codeword(words.near_b) {
+    if is_codeword(corrected.near_a) && is_codeword(corrected.near_b) {
         return [0; 16];
     }
-    differences(rows, &to_rows(&words.a, &words.b))
+    differences(rows, &to_rows(&corrected.words.a, &corrected.words.b))
 }
 
 // Whether the codeword near a word is the word.
@@ -108,14 +104,14 @@ fn number_in(row: &[Gf; 16], lane: usize) -> u16
 
 // The forty wides that a pair carries: those of the messages of its codewords, or zeros where a word
 // has no codeword near it.
-pub fn wides_of(rows: &[[Gf; 16]; 68], words: &Corrected) -> [Wide; 40]
-    requires { IsCorrectionOf rows.now words.now.a words.now.b words.now.near_a words.now.near_b }
+pub fn wides_of(rows: &[[Gf; 16]; 68], corrected: &Corrected) -> [Wide; 40]
+    requires { IsCorrectionOf rows.now corrected.now.words.a corrected.now.words.b corrected.now.near_a corrected.now.near_b }
     ensures bits { flat result ≡ bits_of_pair rows.now }
     ensures count { length result ≡ 40 }
     ensures sizes { (i : ℕ) → i < 40 → length (slice_index_or result i []) ≡ 257 }
 {
-    if are_near(words.near_a, words.near_b) {
-        from_messages(&message(&words.a), &message(&words.b))
+    if are_near(corrected.near_a, corrected.near_b) {
+        from_codewords(&corrected.words)
     } else {
         zeros()
     }
@@ -134,15 +130,4 @@ fn zeros() -> [Wide; 40]
     ensures sizes { (i : ℕ) → i < 40 → length (slice_index_or result i []) ≡ 257 }
 {
     [Wide::new([0; 5]); 40]
-}
-
-// The message of a codeword, behind its thirty parity symbols.
-fn message(word: &[Gf; 544]) -> [Gf; 514]
-    ensures { result ≡ drop 30 word.now }
-{
-    let mut message = [Gf::low(0); 514];
-    for i in 0..514usize {
-        message[i] = word[30 + i];
-    }
-    message
 }

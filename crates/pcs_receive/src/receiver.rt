@@ -203,10 +203,11 @@ impl Receiver {
         self.next_event()
     }
 
-    // Whether nothing of the last beat is left.
+    /// Whether all events of the beats so far were given. It takes less time than `next`.
     #[inline(always)]
-    fn is_drained(&self) -> bool
-        ensures { IsTrue result ↔ IsDrained self.now }
+    pub fn is_drained(&self) -> bool
+        ensures drained { IsTrue result ↔ IsDrained self.now }
+        ensures none { IsTrue result → (h : Hearing) → Stands self.now h → Answers None (next_event h) }
     {
         is_nothing(&self.lead) && is_past(self.given, &self.columns) && self.lost.is_none()
     }

@@ -50,6 +50,10 @@ impl<T: Teller> Task for Listening<'_, T> {
         sink: &mut W,
     ) -> Result<(), Failed> {
         self.receiver.take(beat);
+        // Most beats bring nothing.
+        if self.receiver.is_drained() {
+            return Ok(());
+        }
         self.receiver.has_few_left();
         while let Some(event) = &self.receiver.next() {
             self.aligned = aligned_after(self.aligned, event);

@@ -1,7 +1,7 @@
 -- Four symbols more at once: the remainder four places on, and a multiple for each of the four that leave it.
-use Rattle.std.proofs.Common.{◌≡◌, ℕ, zero, suc, ◌<◌, List, [], ◌∷◌, ◌++◌, length, replicate, take, get_or, refl, sym, ap, ap₂, ◌∙◌, arith}
+use Rattle.std.proofs.Common.{◌≡◌, ℕ, ◌<◌, List, [], ◌∷◌, ◌++◌, length, take, get_or, sym, ap, ap₂, ◌∙◌, arith}
 use Rattle.std.proofs.Math.Seq.{drop-cons}
-use Rattle.std.proofs.lemmas.List.{ext_get_or, length-take, get_or-take, take-append-drop}
+use Rattle.std.proofs.lemmas.List.{ext_get_or, length-take, take-append-drop}
 use Rattle.gf1024.specs.Symbol.{Symbol, gf, zero_symbol, sum_of, product_of, alpha}
 use Rattle.gf1024.proofs.FieldLaws.{laws}
 use Rattle.field_base.specs.Field.{Field, Laws, power}
@@ -153,60 +153,22 @@ value_four a b c d part x =
     ∙ ap (sum_of (value gf (a ∷ b ∷ c ∷ d ∷ []) x))
     (sym (four_right gf laws x (power gf x 0) v) ∙ ap (four gf laws x) (one_mul gf laws v))
 
-zeros_before : (n : ℕ) (l : List Symbol) (i : ℕ) → i < n → get_or (replicate n zero_symbol ++ l) i zero_symbol ≡ zero_symbol
-zeros_before zero l i less = absurd (omega arith)
-zeros_before (suc n) l zero less = refl
-zeros_before (suc n) l (suc i) less = zeros_before n l i (omega arith)
-
--- four symbols added to the last lanes leave the others
-low_kept : (register ends summed l : List Symbol) → length register ≡ 32 → ends ≡ replicate 28 zero_symbol ++ l
-    → EachLane sum_of register ends summed → take 28 summed ≡ take 28 register
-low_kept register ends summed l long ee h =
-    ext_get_or zero_symbol (take 28 summed) (take 28 register)
-    (omega (arith, long, h.long, length-take 28 summed, length-take 28 register)) (λ i less.
-    let low : i < 28 = omega (arith, h.long, length-take 28 summed) in
-    let kept = get_or register i zero_symbol in
-    get_or-take 28 summed i zero_symbol low ∙ h.each i (omega arith)
-    ∙ ap (sum_of kept) (ap (λ e. get_or e i zero_symbol) ee ∙ zeros_before 28 l i low)
-    ∙ laws.add_zero kept ∙ sym (get_or-take 28 register i zero_symbol low))
-
-pub four_more_is : (register ends summed moved m0 m1 m2 m3 r0 r1 r2 r3 b0 b1 b2 b3 : List Symbol) (a b c d f0 f1 f2 f3 : Symbol)
-    → ends ≡ replicate 28 zero_symbol ++ a ∷ b ∷ c ∷ d ∷ [] → EachLane sum_of register ends summed
-    → moved ≡ zero_symbol ∷ zero_symbol ∷ zero_symbol ∷ zero_symbol ∷ take 28 summed
+pub four_more_is : (register moved m0 m1 m2 m3 r0 r1 r2 r3 b0 b1 b2 b3 : List Symbol) (a b c d f0 f1 f2 f3 : Symbol)
+    → moved ≡ zero_symbol ∷ zero_symbol ∷ zero_symbol ∷ zero_symbol ∷ take 28 register
     → IsBase 32 b0 → IsBase 33 b1 → IsBase 34 b2 → IsBase 35 b3
     → m0 ≡ scaled gf f0 b0 → m1 ≡ scaled gf f1 b1 → m2 ≡ scaled gf f2 b2 → m3 ≡ scaled gf f3 b3
-    → f0 ≡ get_or summed 28 zero_symbol → f1 ≡ get_or summed 29 zero_symbol
-    → f2 ≡ get_or summed 30 zero_symbol → f3 ≡ get_or summed 31 zero_symbol
+    → f0 ≡ sum_of (get_or register 28 zero_symbol) a → f1 ≡ sum_of (get_or register 29 zero_symbol) b
+    → f2 ≡ sum_of (get_or register 30 zero_symbol) c → f3 ≡ sum_of (get_or register 31 zero_symbol) d
     → EachLane sum_of moved m0 r0 → EachLane sum_of r0 m1 r1 → EachLane sum_of r1 m2 r2 → EachLane sum_of r2 m3 r3
     → (part : List Symbol) → IsRemainder register part → IsRemainder r3 (a ∷ b ∷ c ∷ d ∷ part)
-four_more_is register ends summed moved m0 m1 m2 m3 r0 r1 r2 r3 b0 b1 b2 b3 a b c d f0 f1 f2 f3 ee es ew h0 h1 h2 h3 e0 e1 e2 e3
-    i0 i1 i2 i3 s0 s1 s2 s3 part h = record {
+four_more_is register moved m0 m1 m2 m3 r0 r1 r2 r3 b0 b1 b2 b3 a b c d f0 f1 f2 f3 em h0 h1 h2 h3 e0 e1 e2 e3
+    g0 g1 g2 g3 s0 s1 s2 s3 part h = record {
       long = p3.long;
       lane_0 = p3.lane_0 ∙ p2.lane_0 ∙ p1.lane_0 ∙ p0.lane_0 ∙ ap (λ l. get_or l 0 zero_symbol) em;
       lane_1 = p3.lane_1 ∙ p2.lane_1 ∙ p1.lane_1 ∙ p0.lane_1 ∙ ap (λ l. get_or l 1 zero_symbol) em;
       values = values;
     }
   where
-    em : moved ≡ zero_symbol ∷ zero_symbol ∷ zero_symbol ∷ zero_symbol ∷ take 28 register
-    em = ew ∙ ap (λ l. zero_symbol ∷ zero_symbol ∷ zero_symbol ∷ zero_symbol ∷ l)
-        (low_kept register ends summed (a ∷ b ∷ c ∷ d ∷ []) h.long ee es)
-
-    lane : (k : ℕ) → k < 32 → {f : Symbol} → f ≡ get_or summed k zero_symbol
-        → f ≡ sum_of (get_or register k zero_symbol) (get_or (replicate 28 zero_symbol ++ a ∷ b ∷ c ∷ d ∷ []) k zero_symbol)
-    lane k less e = e ∙ es.each k less ∙ ap (λ l. sum_of (get_or register k zero_symbol) (get_or l k zero_symbol)) ee
-
-    g0 : f0 ≡ sum_of (get_or register 28 zero_symbol) a
-    g0 = lane 28 (omega arith) i0
-
-    g1 : f1 ≡ sum_of (get_or register 29 zero_symbol) b
-    g1 = lane 29 (omega arith) i1
-
-    g2 : f2 ≡ sum_of (get_or register 30 zero_symbol) c
-    g2 = lane 30 (omega arith) i2
-
-    g3 : f3 ≡ sum_of (get_or register 31 zero_symbol) d
-    g3 = lane 31 (omega arith) i3
-
     long : length moved ≡ 32
     long = ap length em ∙ omega (arith, h.long, length-take 28 register)
 

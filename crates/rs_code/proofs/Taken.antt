@@ -1,7 +1,7 @@
 -- The remainder of a message, from its highest symbols down, and what it tells of codewords and values.
-use Rattle.std.proofs.Common.{◌≡◌, ℕ, zero, suc, ◌+◌, ◌-◌, ◌*◌, ◌<◌, ◌≤◌, List, [], ◌∷◌, length, take, drop, get_or, replicate, sym, ap, ap₂, ◌∙◌, subst, arith}
+use Rattle.std.proofs.Common.{◌≡◌, ℕ, zero, suc, ◌+◌, ◌-◌, ◌*◌, ◌<◌, List, [], ◌∷◌, length, take, drop, get_or, replicate, sym, ap, ap₂, ◌∙◌, subst, arith}
 use Rattle.std.proofs.Math.Seq.{drop-cons}
-use Rattle.std.proofs.lemmas.List.{ext_get_or, length-take, length-drop, take_all, take-append-drop, get_or-drop, get_or-take}
+use Rattle.std.proofs.lemmas.List.{ext_get_or, length-take, length-drop, take-append-drop, get_or-drop, get_or-take}
 use Rattle.std.proofs.lemmas.Simd.{get_or-replicate, length-replicate}
 use Rattle.gf1024.specs.Symbol.{Symbol, gf, zero_symbol, sum_of, product_of, alpha}
 use Rattle.gf1024.proofs.FieldLaws.{laws}
@@ -62,42 +62,28 @@ remainder_two register message a b z long ez ea eb h =
     ∙ ap (λ l. get_or message 513 zero_symbol ∷ l) (nothing_after message 514 (omega arith)))))
     (without_zeros register a b z ez h)
 
--- the four symbols from a place on
-pub four_places : (message : List Symbol) (at : ℕ) (a b c d : Symbol) → at + 4 ≤ length message
-    → a ≡ get_or message at zero_symbol → b ≡ get_or message (at + 1) zero_symbol
-    → c ≡ get_or message (at + 2) zero_symbol → d ≡ get_or message (at + 3) zero_symbol
-    → a ∷ b ∷ c ∷ d ∷ drop (at + 4) message ≡ drop at message
-four_places message at a b c d less ea eb ec ed =
-    ap₂ (λ s l. s ∷ l) ea (ap₂ (λ s l. s ∷ l) (eb ∙ same one) (ap₂ (λ s l. s ∷ l) (ec ∙ same two)
-    (ap₂ (λ s n. s ∷ drop n message) (ed ∙ same three) four)))
-    ∙ sym (drop-cons message at zero_symbol (omega arith)
-    ∙ ap (λ l. get_or message at zero_symbol ∷ l) (drop-cons message (suc at) zero_symbol (omega arith)
-    ∙ ap (λ l. get_or message (suc at) zero_symbol ∷ l) (drop-cons message (suc (suc at)) zero_symbol (omega arith)
-    ∙ ap (λ l. get_or message (suc (suc at)) zero_symbol ∷ l) (drop-cons message (suc (suc (suc at))) zero_symbol (omega arith)))))
-  where
-    same : {n k : ℕ} → n ≡ k → get_or message n zero_symbol ≡ get_or message k zero_symbol
-    same e = ap (λ k. get_or message k zero_symbol) e
-
-    one : at + 1 ≡ suc at
-    one = omega arith
-
-    two : at + 2 ≡ suc (suc at)
-    two = omega arith
-
-    three : at + 3 ≡ suc (suc (suc at))
-    three = omega arith
-
-    four : at + 4 ≡ suc (suc (suc (suc at)))
-    four = omega arith
-
--- four symbols lower
-pub lower : (register new message : List Symbol) (i : ℕ) → i < 128
-    → (IsRemainder register (drop (508 - 4 * i + 4) message) → IsRemainder new (drop (508 - 4 * i) message))
-    → IsRemainder register (drop (512 - 4 * i) message) → IsRemainder new (drop (512 - 4 * (i + 1)) message)
-lower register new message i less step h =
-    let low : 508 - 4 * i ≡ 512 - 4 * (i + 1) = omega arith in
-    let high : 512 - 4 * i ≡ 508 - 4 * i + 4 = omega arith in
-    subst (λ n. IsRemainder new (drop n message)) low (step (subst (λ n. IsRemainder register (drop n message)) high h))
+-- four symbols more
+pub four_places : (message : List Symbol) (i : ℕ) (a b c d : Symbol) → length message ≡ 514 → i < 128
+    → a ≡ get_or message (508 - 4 * i) zero_symbol → b ≡ get_or message (508 - 4 * i + 1) zero_symbol
+    → c ≡ get_or message (508 - 4 * i + 2) zero_symbol → d ≡ get_or message (508 - 4 * i + 3) zero_symbol
+    → a ∷ b ∷ c ∷ d ∷ drop (512 - 4 * i) message ≡ drop (512 - 4 * (i + 1)) message
+four_places message i a b c d long less ea eb ec ed =
+    let at = 508 - 4 * i in
+    let get : ℕ → Symbol = λ k. get_or message k zero_symbol in
+    let down : 512 - 4 * (i + 1) ≡ at = omega arith in
+    let up : 512 - 4 * i ≡ suc (suc (suc (suc at))) = omega arith in
+    let one : at + 1 ≡ suc at = omega arith in
+    let two : at + 2 ≡ suc (suc at) = omega arith in
+    let three : at + 3 ≡ suc (suc (suc at)) = omega arith in
+    ap (λ s. s ∷ b ∷ c ∷ d ∷ drop (512 - 4 * i) message) ea
+    ∙ ap (λ s. get at ∷ s ∷ c ∷ d ∷ drop (512 - 4 * i) message) (eb ∙ ap get one)
+    ∙ ap (λ s. get at ∷ get (suc at) ∷ s ∷ d ∷ drop (512 - 4 * i) message) (ec ∙ ap get two)
+    ∙ ap (λ s. get at ∷ get (suc at) ∷ get (suc (suc at)) ∷ s ∷ drop (512 - 4 * i) message) (ed ∙ ap get three)
+    ∙ ap (λ n. get at ∷ get (suc at) ∷ get (suc (suc at)) ∷ get (suc (suc (suc at))) ∷ drop n message) up
+    ∙ sym (ap (λ n. drop n message) down ∙ drop-cons message at zero_symbol (omega arith)
+    ∙ ap (λ l. get at ∷ l) (drop-cons message (suc at) zero_symbol (omega arith)
+    ∙ ap (λ l. get (suc at) ∷ l) (drop-cons message (suc (suc at)) zero_symbol (omega arith)
+    ∙ ap (λ l. get (suc (suc at)) ∷ l) (drop-cons message (suc (suc (suc at))) zero_symbol (omega arith)))))
 
 -- without its zeros it is x^30 times the part
 pub rest_of_remainder : (register part : List Symbol) → IsRemainder register part → IsRest 30 30 (drop 2 register) part
@@ -139,13 +125,9 @@ same_values word register rest long h long_r each j less =
     ∙ sym (ap (λ l. value gf l x) (sym (take-append-drop 30 word)) ∙ value_append low (drop 30 word) x
     ∙ ap (λ n. sum_of (value gf low x) (product_of (power gf x n) (value gf (drop 30 word) x))) short)
 
--- the values of zeros
-pub no_values : (rest : List Symbol) → length rest ≡ 30 → ((k : ℕ) → k < 30 → get_or rest k zero_symbol ≡ zero_symbol)
-    → (j : ℕ) → j < 30 → get_or rest j zero_symbol ≡ value gf rest (power gf alpha j)
-no_values rest long none j less = none j less ∙ sym (zeros rest (power gf alpha j) (λ k l. none k (omega arith)))
-
--- what stands behind the parity, as a slice of the whole word
-pub behind_parity : (register word : List Symbol) → length word ≡ 544 → IsRemainder register (take (length word - 30) (drop 30 word))
-    → IsRemainder register (drop 30 word)
-behind_parity register word long =
-    subst (IsRemainder register) (take_all (length word - 30) (drop 30 word) (omega (arith, length-drop 30 word)))
+-- a remainder of zeros
+pub no_values : (rest word : List Symbol) → length rest ≡ 30 → ((k : ℕ) → k < 30 → get_or rest k zero_symbol ≡ zero_symbol)
+    → ((j : ℕ) → j < 30 → value gf rest (power gf alpha j) ≡ value gf word (power gf alpha j))
+    → (j : ℕ) → j < 30 → get_or rest j zero_symbol ≡ value gf word (power gf alpha j)
+no_values rest word long none same j less =
+    none j less ∙ sym (zeros rest (power gf alpha j) (λ k l. none k (omega arith))) ∙ same j less

@@ -1,11 +1,10 @@
-ghost use Rattle.std.specs.Prelude.{◌≡◌, ℕ, ◌<◌, ◌++◌, ◌↔◌, List, IsTrue, drop, length, slice_index_or};
-ghost use Rattle.gf1024.specs.Symbol.{Symbol, gf, zero_symbol, alpha};
+ghost use Rattle.std.specs.Prelude.{◌≡◌, ℕ, ◌<◌, ◌++◌, ◌↔◌, IsTrue, length, slice_index_or};
+ghost use Rattle.gf1024.specs.Symbol.{gf, zero_symbol, alpha};
 ghost use Rattle.field_base.specs.Field.{power};
 ghost use Rattle.field_base.specs.Poly.{value};
 ghost use Rattle.rs_code.specs.Near.{coded};
-ghost use Rattle.rs_code.specs.Register.{IsRemainder};
 
-use crate::remainder::{remainder, remainders};
+use crate::remainder::remainder;
 use gf_lanes::{Gf32, horner};
 use gf1024::Gf;
 
@@ -14,32 +13,7 @@ pub fn encode(message: &[Gf; 514], parity: &mut [Gf; 30])
     ensures coded { parity.new ++ message.now ≡ coded message.now }
     ensures size { length parity.new ≡ 30 }
 {
-    put_parity(&remainder(message), parity);
-}
-
-/// Writes the parities of two messages, as `encode` does. It takes less time than two calls.
-pub fn encode_two(
-    first: &[Gf; 514],
-    second: &[Gf; 514],
-    first_parity: &mut [Gf; 30],
-    second_parity: &mut [Gf; 30],
-)
-    ensures first { first_parity.new ++ first.now ≡ coded first.now }
-    ensures second { second_parity.new ++ second.now ≡ coded second.now }
-    ensures sizes { (length first_parity.new ≡ 30) × (length second_parity.new ≡ 30) }
-{
-    let (a, b) = remainders(first, second);
-    put_parity(&a, first_parity);
-    put_parity(&b, second_parity);
-}
-
-// Writes the parity that a remainder is.
-#[inline(always)]
-fn put_parity(register: &Gf32, parity: &mut [Gf; 30])
-    ensures coded { (message : List Symbol) → length message ≡ 514 → IsRemainder register.now message
-        → parity.new ++ message ≡ coded message }
-    ensures size { length parity.new ≡ 30 }
-{
+    let register = remainder(message);
     for k in 0..30usize {
         parity[k] = register.lane(k + 2);
     }
@@ -50,35 +24,11 @@ pub fn syndromes(word: &[Gf; 544]) -> [Gf; 30]
     ensures { (j : ℕ) → j < 30
         → slice_index_or result j zero_symbol ≡ value gf word.now (power gf alpha j) }
 {
-    let whole = &word[..];
-    values_of(&rest_of(word, &remainder(&whole[30..])))
-}
-
-/// The values of two words, as `syndromes` gives them. It takes less time than two calls.
-pub fn syndromes_of_two(first: &[Gf; 544], second: &[Gf; 544]) -> ([Gf; 30], [Gf; 30])
-    ensures first { (j : ℕ) → j < 30
-        → slice_index_or result.0 j zero_symbol ≡ value gf first.now (power gf alpha j) }
-    ensures second { (j : ℕ) → j < 30
-        → slice_index_or result.1 j zero_symbol ≡ value gf second.now (power gf alpha j) }
-{
-    let whole_first = &first[..];
-    let whole_second = &second[..];
-    let (a, b) = remainders(&whole_first[30..], &whole_second[30..]);
-    (
-        values_of(&rest_of(first, &a)),
-        values_of(&rest_of(second, &b)),
-    )
-}
-
-// The values of the remainder of a word at the roots.
-#[inline(always)]
-fn values_of(rest: &[Gf; 30]) -> [Gf; 30]
-    ensures { (j : ℕ) → j < 30 → slice_index_or result j zero_symbol ≡ value gf rest.now (power gf alpha j) }
-{
-    if are_zero(rest) {
-        return *rest;
+    let rest = rest_of(word);
+    if are_zero(&rest) {
+        return rest;
     }
-    let sums = values_in_lanes(rest);
+    let sums = values_in_lanes(&rest);
     let mut values = [Gf::low(0); 30];
     for j in 0..30usize {
         values[j] = sums.lane(j);
@@ -86,13 +36,13 @@ fn values_of(rest: &[Gf; 30]) -> [Gf; 30]
     values
 }
 
-// The remainder of a word by the generator, which has the same values at the roots, from that of the
-// symbols behind the parity.
+// The remainder of the word by the generator, which has the same values at the roots.
 #[inline(always)]
-fn rest_of(word: &[Gf; 544], register: &Gf32) -> [Gf; 30]
-    requires { IsRemainder register.now (drop 30 word.now) }
+fn rest_of(word: &[Gf; 544]) -> [Gf; 30]
     ensures { (j : ℕ) → j < 30 → value gf result (power gf alpha j) ≡ value gf word.now (power gf alpha j) }
 {
+    let whole = &word[..];
+    let register = remainder(&whole[30..]);
     let mut rest = [Gf::low(0); 30];
     for k in 0..30usize {
         rest[k] = word[k].add(register.lane(k + 2));

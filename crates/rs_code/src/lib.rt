@@ -10,7 +10,7 @@ pub mod laws;
 mod remainder;
 mod rows;
 
-pub use code::{are_zero, encode, encode_two, syndromes, syndromes_of_two, values_in_lanes};
+pub use code::{are_zero, encode, syndromes, values_in_lanes};
 
 #[cfg(test)]
 mod tests;

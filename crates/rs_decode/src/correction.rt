@@ -10,7 +10,7 @@ use crate::errors::{add_errors, errors_at, numerator_of};
 use crate::recurrence::shortest_recurrence_of;
 use crate::roots::root_places;
 use gf1024::Gf;
-use rs_code::{are_zero, syndromes, syndromes_of_two};
+use rs_code::{are_zero, syndromes};
 
 /// The most errors that are corrected in a word.
 const MOST: usize = 15;
@@ -23,20 +23,6 @@ pub fn correct(word: &mut [Gf; 544]) -> Option<u8>
 {
     let values = syndromes(word);
     correct_by_values(word, &values, MOST)
-}
-
-/// Corrects two words, as `correct` does. It takes less time than two calls where both are codewords.
-pub fn correct_two(first: &mut [Gf; 544], second: &mut [Gf; 544]) -> (Option<u8>, Option<u8>)
-    ensures first { result.0 ≡ option_map (λ c. distance first.old c) (near first.old 15) }
-    ensures first_left { first.new ≡ unwrap_or (near first.old 15) first.old }
-    ensures second { result.1 ≡ option_map (λ c. distance second.old c) (near second.old 15) }
-    ensures second_left { second.new ≡ unwrap_or (near second.old 15) second.old }
-{
-    let (a, b) = syndromes_of_two(first, second);
-    (
-        correct_by_values(first, &a, MOST),
-        correct_by_values(second, &b, MOST),
-    )
 }
 
 /// Replaces a word by the codeword within `most` places, and tells in how many places it differed.

@@ -8,7 +8,8 @@ use gf1024::Gf;
 use pcs_bits::BitQueue;
 
 /// The bits that two messages carry, 64 in a word and the last forty in word 160.
-pub fn gather_words(a: &[Gf; 514], b: &[Gf; 514]) -> [u64; 161]
+pub fn gather_words(a: &[Gf], b: &[Gf]) -> [u64; 161]
+    requires { (length a.now ≡ 514) × (length b.now ≡ 514) }
     ensures { all_bits 64 (take 160 result) ++ bits 40 (slice_index result 160) ≡ message_bits a.now b.now }
 {
     let mut words = [0; 161];
@@ -23,7 +24,8 @@ pub fn gather_words(a: &[Gf; 514], b: &[Gf; 514]) -> [u64; 161]
 // are in the words before. Written out, since the rest is known at each step then, and nothing is
 // tested.
 #[inline(always)]
-fn gather_five(words: &mut [u64; 161], at: usize, a: &[Gf; 514], b: &[Gf; 514], count: usize)
+fn gather_five(words: &mut [u64; 161], at: usize, a: &[Gf], b: &[Gf], count: usize)
+    requires long { (length a.now ≡ 514) × (length b.now ≡ 514) }
     requires room { at + 5 ≤ 160 }
     requires there { count + 16 ≤ 514 }
     requires before { all_bits 64 (take at words.old) ≡ joined count (twenty_bits a.now b.now) }
@@ -47,8 +49,9 @@ fn gather_five(words: &mut [u64; 161], at: usize, a: &[Gf; 514], b: &[Gf; 514], 
 
 // The bits of place `i` of both messages and of the next one.
 #[inline(always)]
-fn forty(a: &[Gf; 514], b: &[Gf; 514], i: usize) -> u64
-    requires { i + 2 ≤ 514 }
+fn forty(a: &[Gf], b: &[Gf], i: usize) -> u64
+    requires long { (length a.now ≡ 514) × (length b.now ≡ 514) }
+    requires there { i + 2 ≤ 514 }
     ensures bits { bits 40 result ≡ twenty_bits a.now b.now i ++ twenty_bits a.now b.now (i + 1) }
     ensures fits { result < 2 ^ 40 }
 {
@@ -57,8 +60,9 @@ fn forty(a: &[Gf; 514], b: &[Gf; 514], i: usize) -> u64
 
 // The bits of place `i` of both messages, which is counted from the last symbol.
 #[inline(always)]
-fn twenty(a: &[Gf; 514], b: &[Gf; 514], i: usize) -> u64
-    requires { i < 514 }
+fn twenty(a: &[Gf], b: &[Gf], i: usize) -> u64
+    requires long { (length a.now ≡ 514) × (length b.now ≡ 514) }
+    requires there { i < 514 }
     ensures bits { bits 20 result ≡ twenty_bits a.now b.now i }
     ensures fits { result < 2 ^ 20 }
 {

@@ -1,5 +1,5 @@
-use Rattle.std.proofs.Common.{map}
-use Rattle.gf1024.specs.Symbol.{symbol}
+use Rattle.std.proofs.Common.{map, ap, ◌∙◌}
+use Rattle.gf1024.specs.Symbol.{symbol, sum_of}
 use Rattle.rs_code.specs.declared.rows.x30.TheConstants.{X30}
 use Rattle.rs_code.specs.declared.rows.x31.TheConstants.{X31}
 use Rattle.rs_code.specs.declared.rows.x32.TheConstants.{X32}
@@ -23,10 +23,12 @@ multiple-by_33-requires c = rows_33
 
 pub returns : goal.returns
 returns c =
-    four_more_is c.args.register c.at_the_end.result c.add-summed.result c.four_on.result c.multiple-by_30.result
-    c.multiple-by_31.result c.multiple-by_32.result c.multiple-by_33.result c.add.result c.add-2.result c.add-3.result c.add-4.result
+    four_more_is c.args.register c.four_on.result c.multiple-by_30.result c.multiple-by_31.result c.multiple-by_32.result
+    c.multiple-by_33.result c.add-5.result c.add-6.result c.add-7.result c.add-8.result
     (map symbol (first_row X30.low)) (map symbol (first_row X31.low)) (map symbol (first_row X32.low)) (map symbol (first_row X33.low))
-    c.args.a c.args.b c.args.c c.args.d c.lane.result c.lane-2.result c.lane-3.result c.lane-4.result
-    c.at_the_end.ensures c.add-summed.ensures c.four_on.ensures base_30 base_31 base_32 base_33
+    c.args.a c.args.b c.args.c c.args.d c.add.result c.add-2.result c.add-3.result c.add-4.result c.four_on.ensures
+    base_30 base_31 base_32 base_33
     c.multiple-by_30.ensures c.multiple-by_31.ensures c.multiple-by_32.ensures c.multiple-by_33.ensures
-    c.lane.ensures c.lane-2.ensures c.lane-3.ensures c.lane-4.ensures c.add.ensures c.add-2.ensures c.add-3.ensures c.add-4.ensures
+    (c.add.ensures ∙ ap (λ z. sum_of z c.args.a) c.lane.ensures) (c.add-2.ensures ∙ ap (λ z. sum_of z c.args.b) c.lane-2.ensures)
+    (c.add-3.ensures ∙ ap (λ z. sum_of z c.args.c) c.lane-3.ensures) (c.add-4.ensures ∙ ap (λ z. sum_of z c.args.d) c.lane-4.ensures)
+    c.add-5.ensures c.add-6.ensures c.add-7.ensures c.add-8.ensures

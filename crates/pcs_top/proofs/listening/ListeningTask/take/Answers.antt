@@ -29,6 +29,17 @@ loop-event-preserved g c =
       later = omega (arith, c.loop-event.invariant.later, c.tell.ensures.cause.later);
     }
 
+pub returns-then-is_drained-clause-ok : goal.returns-then-is_drained-clause-ok
+returns-then-is_drained-clause-ok g c = λ text beats start put.
+    let t = telling-start g.T.Teller.Keeps _ _ c.args.beat _ _ text beats start _ _ (text.so_far beats) put.keeps
+    (ap (λ (t : BeatsText). t.so_far beats) put.keeps.is) put.wrote c.take.ensures.stands in
+    let answer = c.is_drained.ensures.none c.if-is_drained.true in
+    record {
+      keeps = telling-all g.T.Teller.Keeps _ _ _ _ text (beats ++ c.args.beat ∷ []) start _ _ t answer (λ h stands. stands);
+      grows = put.grows;
+      wrote = telling-wrote g.T.Teller.Keeps _ _ _ text (beats ++ c.args.beat ∷ []) start _ _ t answer;
+    }
+
 pub returns-in_err-tell-clause-err : goal.returns-in_err-tell-clause-err
 returns-in_err-tell-clause-err g c =
     let exit = err_from_is_err_and c.from_residual.result c.from_residual.ensures.1 in
