@@ -1,4 +1,4 @@
-use Rattle.std.proofs.Common.{◌≡◌, ◌+◌, ◌*◌, ◌++◌, ◌∷◌, [], ◌∙◌, refl, sym, ap, get_or, arith}
+use Rattle.std.proofs.Common.{◌≡◌, ◌+◌, ◌*◌, ◌++◌, ◌∷◌, [], ◌∙◌, rules, sym, ap, get_or, arith}
 use Rattle.bit_lists.specs.Bits.{bits, all_bits}
 use Rattle.bit_lists.proofs.Facts.{all_bits-nil}
 use Rattle.symbol_deal.specs.Messages.{message_bits}
@@ -7,7 +7,7 @@ use Rattle.symbol_deal.proofs.Packing.{five_more}
 use Rattle.symbol_deal.proofs.bits_dealt.deal_words.Goals as goal
 
 pub loop-q-init : goal.loop-q-init
-loop-q-init c = record { a_size = refl; b_size = refl; bits = nothing_dealt _ ∙ sym (all_bits-nil 64) }
+loop-q-init c = record { a_size = search rules; b_size = search rules; bits = nothing_dealt _ ∙ sym (all_bits-nil 64) }
 
 pub loop-q-preserved : goal.loop-q-preserved
 loop-q-preserved c =
@@ -23,9 +23,9 @@ loop-q-preserved c =
           ∙ sym (five_more words n (omega (arith, c.told-words, c.loop-q-test.true))));
     }
 
-pub returns : goal.returns
+pub returns-clause-bits : goal.returns-clause-bits
 unfolding message_bits
-returns c =
+returns-clause-bits c =
     let end : 16 * c.loop-q.q ≡ 512 = omega arith in
     let end5 : 5 * c.loop-q.q ≡ 160 = omega arith in
     c.deal_forty.ensures.bits
