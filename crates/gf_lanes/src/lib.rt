@@ -4,8 +4,7 @@
 ghost use Rattle.std.specs.Prelude.{◌≡◌, ℕ, ◌<◌, List, ◌∷◌, length, map, take, slice_index_or};
 ghost use Rattle.gf1024.specs.Symbol.{Symbol, symbol, sum_of, product_of, zero_symbol, gf};
 ghost use Rattle.field_base.specs.Field.{total};
-ghost use Rattle.gf_lanes.specs.Lanes.{EachLane, AreSymbols, AreProducts};
-ghost use Rattle.gf_lanes.specs.Lanes.{AreLowProducts, AreShort, AreReduced};
+ghost use Rattle.gf_lanes.specs.Lanes.{EachLane, AreSymbols, AreProducts, AreLowProducts, AreShort, AreReduced};
 ghost use Rattle.gf_lanes.specs.Facts.{numbers_again};
 
 use gf1024::Gf;

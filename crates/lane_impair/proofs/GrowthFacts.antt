@@ -1,13 +1,9 @@
 -- A beat put behind the lanes, one lane after the other.
-use Rattle.std.proofs.Common.{◌≡◌, ℕ, ◌+◌, ◌<◌, ◌≤◌, List, ◌++◌, length, get_or, set, refl, sym, ◌∙◌, ap, ap₂, subst, inl, inr, arith}
-use Rattle.std.proofs.Common.{get_or-set_same, get_or-set_other}
-use Rattle.std.specs.Prelude.{◌≢◌}
-use Rattle.std.proofs.lemmas.Bool.{cases_lt, cases_eq}
+use Rattle.std.proofs.Common.{◌≡◌, ℕ, ◌+◌, ◌<◌, ◌≤◌, List, ◌++◌, length, get_or, set, refl, sym, ◌∙◌, ap, ap₂, subst, inl, inr, arith, get_or-set_same, get_or-set_other, ◌-◌, ◌*◌, ◌%◌, ◌^◌, List, [], length-set, length-append}
+use Rattle.std.specs.Prelude.{◌≢◌, bit_or, Bool, true, false, if◌then◌else◌}
+use Rattle.std.proofs.lemmas.Bool.{cases_lt, cases_eq, eq-eqb, ne_eqb, le-leb, lt-leb, lt-ltb, le-ltb}
 use Rattle.std.proofs.lemmas.List.{append-nil, set_past}
 use Rattle.bit_lists.specs.Bits.{bits}
-use Rattle.std.proofs.Common.{◌-◌, ◌*◌, ◌%◌, ◌^◌, List, [], length-set, length-append}
-use Rattle.std.specs.Prelude.{bit_or, Bool, true, false, if◌then◌else◌}
-use Rattle.std.proofs.lemmas.Bool.{eq-eqb, ne_eqb, le-leb, lt-leb, lt-ltb, le-ltb}
 use Rattle.bit_lists.proofs.BitsOnly.{are_bits-append}
 use Rattle.bit_lists.proofs.Facts.{bits_below_2, length-bits}
 use Rattle.lane_impair.proofs.Octets.{octet_at-append, word_octet}
@@ -22,24 +18,6 @@ pub record GrowsBelow (old new : Held) (more : ℕ → List ℕ) (n : ℕ) : Typ
   pub count : length new.rows ≡ length old.rows
   pub same : (l : ℕ) → n ≤ l → get_or new.lengths l 0 ≡ get_or old.lengths l 0
   pub most : (l : ℕ) → get_or new.lengths l 0 ≤ get_or old.lengths l 0 + 8
-
-pub grows_none : (s : Held) (more : ℕ → List ℕ) → GrowsBelow s s more 0
-grows_none s more = record {
-  done = λ l xs low h. absurd (omega arith);
-  left = λ l xs low h. h;
-  rest = refl;
-  count = refl;
-  same = λ l low. refl;
-  most = λ l. omega arith;
-}
-
-pub grows_all : (old new : Held) (more : ℕ → List ℕ) (n : ℕ) → n ≡ 16 → GrowsBelow old new more n → Grows old new more
-grows_all old new more n all g = record {
-  lanes = λ l xs low h. g.done l xs (omega arith) h;
-  rest = g.rest;
-  count = g.count;
-  most = g.most;
-}
 
 -- a number set in a list of numbers
 set_most : (xs : List ℕ) (n v l : ℕ) → get_or xs n 0 ≤ v → v ≤ get_or xs n 0 + 8 → get_or (set xs n v) l 0 ≤ get_or xs l 0 + 8

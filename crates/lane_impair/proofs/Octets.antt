@@ -1,18 +1,15 @@
 -- Octets of lists of bits.
-use Rattle.std.proofs.Common.{◌≡◌, ℕ, zero, suc, ◌+◌, ◌-◌, ◌*◌, ◌/◌, ◌%◌, ◌^◌, ◌<◌, ◌≤◌, List, [], ◌∷◌, ◌++◌, length, get_or, take, drop, replicate}
-use Rattle.std.proofs.Common.{refl, sym, ◌∙◌, ap, inl, inr, arith, length-take, get_or-take, get_or-drop}
+use Rattle.std.proofs.Common.{◌≡◌, ℕ, zero, suc, ◌+◌, ◌-◌, ◌*◌, ◌/◌, ◌%◌, ◌^◌, ◌<◌, ◌≤◌, List, [], ◌∷◌, ◌++◌, length, get_or, take, drop, replicate, refl, sym, ◌∙◌, ap, inl, inr, arith, length-take, get_or-take, get_or-drop}
 use Rattle.std.specs.Int.{bit_at}
-use Rattle.std.specs.Prelude.{bit_or, nat_eq, if◌then◌else◌, max, slice_range}
+use Rattle.std.specs.Prelude.{bit_or, nat_eq, if◌then◌else◌, max, slice_range, ◌≢◌}
 use Rattle.std.proofs.lemmas.Bool.{cases_lt, cases_eq, eq-eqb, ne_eqb}
 use Rattle.std.proofs.lemmas.Nat.{or_lt, mul-le, shr_below}
 use Rattle.std.proofs.Math.Pow.{pow_mono}
 use Rattle.std.proofs.lemmas.Nat.Bits.{bit_at_or, bit_at_above, bit_at-suc, bit_at-zero, bit_at_lowest, same_from_bits_below}
 use Rattle.std.proofs.lemmas.List.{get_or_append_left, get_or-append_right, get_or_past}
 use Rattle.bit_lists.specs.Bits.{bits, number, IsBits}
-use Rattle.std.specs.Prelude.{◌≢◌}
 use Rattle.bit_lists.proofs.BitsOnly.{are_bits-append}
-use Rattle.bit_lists.proofs.Facts.{bits_below_2, length-bits, get_or-bits, number-lt, bit_at-shr, bit_at-shl_high, bit_at-shl_word}
-use Rattle.bit_lists.proofs.Facts.{bit_at-shl_word_low, below_2-take, below_2-drop}
+use Rattle.bit_lists.proofs.Facts.{bits_below_2, length-bits, get_or-bits, number-lt, bit_at-shr, bit_at-shl_high, bit_at-shl_word, bit_at-shl_word_low, below_2-take, below_2-drop}
 use Rattle.lane_impair.specs.Holding.{octet_at}
 
 -- a number has the bits that it is made of

@@ -1,6 +1,5 @@
 -- What one more beat adds to the lanes.
-use Rattle.std.proofs.Common.{◌≡◌, ℕ, suc, ◌+◌, ◌-◌, ◌*◌, ◌/◌, ◌%◌, ◌^◌, ◌<◌, ◌≤◌, List, [], ◌∷◌, ◌++◌, map, length, get_or, replicate}
-use Rattle.std.proofs.Common.{refl, sym, ◌∙◌, ap, ap₂, inl, inr, arith, append_assoc, append-nil, length-append}
+use Rattle.std.proofs.Common.{◌≡◌, ℕ, suc, ◌+◌, ◌-◌, ◌*◌, ◌/◌, ◌%◌, ◌^◌, ◌<◌, ◌≤◌, List, [], ◌∷◌, ◌++◌, map, length, get_or, replicate, refl, sym, ◌∙◌, ap, ap₂, inl, inr, arith, append_assoc, append-nil, length-append}
 use Rattle.std.specs.Prelude.{◌≢◌, count_by, bit_or}
 use Rattle.std.specs.Int.{bit_at}
 use Rattle.std.proofs.lemmas.Bool.{cases_Bool, cases_lt, eq-eqb, ne_eqb}
@@ -12,7 +11,6 @@ use Rattle.bit_lists.specs.Places.{for_each}
 use Rattle.bit_lists.proofs.ByPlaces.{length-for_each, at-for_each, by_places}
 use Rattle.bit_lists.proofs.BitsOnly.{are_bits-nil, are_bits-cons}
 use Rattle.bit_lists.proofs.Facts.{bits-mod, bits-suc, bits-or_shl, length-bits, get_or-bits, bits-append, bits-zero, all_bits-push, length-all_bits}
-use Rattle.bit_lists.proofs.Facts.{all_bits_below_2}
 use Rattle.lane_impair.specs.declared.item.Item.{Item}
 use Rattle.lane_impair.specs.Impairments.{inverts, inverted, takes_out, is_kept, kept_from, without_drops, skew_of, changed}
 use Rattle.lane_impair.specs.Histories.{lanes_of}
@@ -34,10 +32,6 @@ pub length-lane_bits : (beats : List (List ℕ)) (l : ℕ) → length (lane_bits
 unfolding lane_bits
 length-lane_bits beats l =
     length-all_bits 8 (map (λ b. get_or b l 0) beats) ∙ omega (arith, length-map beats (λ (b : List ℕ). get_or b l 0))
-
-pub lane_are_bits : (beats : List (List ℕ)) (l : ℕ) → IsBits (lane_bits beats l)
-unfolding lane_bits
-lane_are_bits beats l = all_bits_below_2 8 (map (λ b. get_or b l 0) beats)
 
 -- an octet behind a lane is inverted by itself
 pub inverted_more : (items : List Item) (l b o p : ℕ) (xs : List ℕ) → length xs ≡ 8 * b
@@ -158,10 +152,6 @@ fits_more value b width fits low narrow =
     let power : 2 ^ (width + 1) ≡ 2 ^ width + 2 ^ width = pow-add 2 width 1 ∙ omega arith in
     let most : b * 2 ^ width ≤ 1 * 2 ^ width = mul-le b (2 ^ width) 1 (2 ^ width) (omega arith) (omega arith) in
     rw (shl_whole b 1 width 8 (omega arith) (omega arith), or_comm value (b * 2 ^ width), or_shifted b width value fits, power) (omega (arith, most))
-
--- lane l of the input, changed
-pub changed_lane : List Item → List (List ℕ) → ℕ → List ℕ
-changed_lane items beats l = changed items (lanes_of beats) l
 
 -- what a beat adds to a lane
 pub changed_more : (items : List Item) (beats : List (List ℕ)) (beat : List ℕ) (l p : ℕ) → l < 16

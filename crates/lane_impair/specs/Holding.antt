@@ -1,6 +1,5 @@
 -- What an impairer holds of the lanes.
-use Rattle.std.specs.Prelude.{◌≡◌, ℕ, ◌+◌, ◌-◌, ◌*◌, ◌<◌, ◌≤◌, ◌++◌, Bool, nat_eq, nat_le, nat_lt, ◌&&◌, if◌then◌else◌, List, [], length}
-use Rattle.std.specs.Prelude.{slice_index, slice_index_or, slice_range, slice_set, bit_or}
+use Rattle.std.specs.Prelude.{◌≡◌, ℕ, ◌+◌, ◌-◌, ◌*◌, ◌<◌, ◌≤◌, ◌++◌, Bool, nat_eq, nat_le, nat_lt, ◌&&◌, if◌then◌else◌, List, [], length, slice_index, slice_index_or, slice_range, slice_set, bit_or}
 use Rattle.bit_lists.specs.Bits.{number, IsBits}
 
 -- octet k of a list of bits, with zeros past the end

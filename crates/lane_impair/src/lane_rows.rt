@@ -1,6 +1,5 @@
 // The octets of sixteen lanes that grow at paces of their own.
-ghost use Rattle.std.specs.Prelude.{◌≡◌, ◌≢◌, ◌+◌, ◌-◌, ◌*◌, ◌<◌, ◌≤◌, ◌^◌, ◌++◌, ◌∷◌, [], false, if◌then◌else◌, bit_or, ℕ, List, IfOk, length};
-ghost use Rattle.std.specs.Prelude.{slice_index, slice_index_or, slice_set, replicate, drop};
+ghost use Rattle.std.specs.Prelude.{◌≡◌, ◌≢◌, ◌+◌, ◌-◌, ◌*◌, ◌<◌, ◌≤◌, ◌^◌, ◌++◌, ◌∷◌, [], false, if◌then◌else◌, bit_or, ℕ, List, IfOk, length, slice_index, slice_index_or, slice_set, replicate, drop};
 ghost use Rattle.bit_lists.specs.Bits.{bits};
 ghost use Rattle.lane_impair.specs.Holding.{Held, HoldsLane, Grows, is_at, with_row_octet, with_row};
 

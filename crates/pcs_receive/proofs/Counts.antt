@@ -1,15 +1,16 @@
 -- Counts of rows that differ.
 use Rattle.std.proofs.lemmas.Bool.{ne_eqb}
-use Rattle.std.proofs.Common.{eq-eqb, ◌≡◌, ℕ, ◌+◌, ◌<◌, ◌≤◌, Bool, true, false, List, [], ◌∷◌, cond, refl, ap, ap₂, sym, ◌∙◌, arith, zero, suc}
-use Rattle.std.specs.Prelude.{count_by, not, ◌==◌, slice_index_or}
+use Rattle.std.proofs.Common.{eq-eqb, ◌≡◌, ℕ, ◌+◌, ◌<◌, ◌≤◌, Bool, true, false, [], ◌∷◌, cond, refl, ap, ap₂, sym, ◌∙◌, arith, zero, suc}
+use Rattle.std.specs.Prelude.{count_by, not, ◌==◌}
 use Rattle.std.specs.List.{range_with_len}
 use Rattle.std.proofs.lemmas.List.Sums.{sum_by-append, count_by-le-length}
 use Rattle.std.proofs.lemmas.List.FromFn.{length-range_with_len}
 use Rattle.bit_lists.specs.Places.{for_each}
 use Rattle.bit_lists.proofs.Lists.{range_with_len-append}
-use Rattle.bit_lists.proofs.ByPlaces.{at-for_each, same_for_each}
-use Rattle.gf1024.specs.Symbol.{Symbol, zero_symbol}
-use Rattle.symbol_deal.specs.Rows.{row_symbol, rows_of, symbol_at}
+use Rattle.bit_lists.proofs.ByPlaces.{same_for_each}
+use Rattle.gf1024.specs.Symbol.{Symbol}
+use Rattle.symbol_deal.specs.Rows.{rows_of, symbol_at}
+use Rattle.symbol_deal.proofs.Woven.{symbol_at-rows_of}
 use Rattle.pcs_receive.specs.Reports.{Rows, corrected_a, corrected_b, wrong_in}
 use Rattle.pcs_receive.specs.Corrections.{differ, differing}
 
@@ -58,19 +59,13 @@ differ-no rows sent u k e = ap not (eq-eqb _ _ e)
 pub differ-yes : (rows sent : Rows) (u k : ℕ) → ¬ ((symbol_at rows k u).value ≡ (symbol_at sent k u).value) → differ rows sent u k ≡ true
 differ-yes rows sent u k h = ap not (ne_eqb _ _ h)
 
-symbol_of_rows : (a b : List Symbol) (k u : ℕ) → k < 68 → u < 16 → symbol_at (rows_of a b) k u ≡ row_symbol a b k u
-unfolding rows_of
-symbol_of_rows a b k u hk hu =
-    ap (λ row. slice_index_or row u zero_symbol) (at-for_each 68 (λ k. for_each 16 (λ l. row_symbol a b k l)) k [] hk)
-    ∙ at-for_each 16 (λ l. row_symbol a b k l) u zero_symbol hu
-
 -- the rows in which a pair differs from its corrected words are those of replaced symbols
 pub differing-wrong : (pair : Rows) (u : ℕ) → u < 16 → differing pair (rows_of (corrected_a pair) (corrected_b pair)) u 68 ≡ wrong_in pair u
 unfolding differing wrong_in
 differing-wrong pair u hu =
     count-same _ _ 68 (λ k high.
     ap (λ (s : Symbol). not ((symbol_at pair k u).value == s.value))
-    (symbol_of_rows (corrected_a pair) (corrected_b pair) k u high hu))
+    (symbol_at-rows_of (corrected_a pair) (corrected_b pair) k u high hu))
 
 pub all_wrong : (pair : Rows) →
     for_each 16 (λ u. differing pair (rows_of (corrected_a pair) (corrected_b pair)) u 68) ≡ for_each 16 (wrong_in pair)

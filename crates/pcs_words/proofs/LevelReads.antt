@@ -1,6 +1,6 @@
 -- What a parse without a fault reads: the rule has its value, which passed the rule's parser.
-use Rattle.std.proofs.Common.{◌≡◌, ◌<◌, ◌&&◌, ◌||◌, Bool, cond, true, false, not, refl, sym, ap, subst, arith, List, [], ◌∷◌, length, Some, inl, inr}
-use Rattle.std.proofs.Common.{◌⊎◌, fold, ne_eqb, ◌++◌, option_map}
+use Rattle.std.proofs.Common.{◌≡◌, ◌<◌, ◌&&◌, ◌||◌, Bool, cond, true, false, not, refl, sym, ap, subst, arith, List, [], ◌∷◌, length, Some, inl, inr, ◌⊎◌, fold, ne_eqb, ◌++◌, option_map}
+use Rattle.std.proofs.lemmas.Bool.{and_parts, or_left, or_right}
 use Rattle.std.specs.List.{find, list_any}
 use Rattle.std.specs.Option.{option_map_or}
 use Rattle.std.specs.Str.{bytes_eq}
@@ -11,12 +11,11 @@ use Rattle.clap.specs.Simple.{Shape}
 use Rattle.clap.specs.Takes.{is_given, value_passes, values_pass}
 use Rattle.clap.specs.Kinds.{Kinds, check_kinds, request_kinds}
 use Rattle.clap.specs.Faults.{default_fault, defaults_fault, given_default_fault, level_fault, settle_fault, values_fault, walk_fault}
-use Rattle.clap.specs.Walk.{Names, Row, Rule, Text, action_of, all_of, default_rows, finished, has_row, is_empty, more_values, nothing_held, one_of}
-use Rattle.clap.specs.Walk.{reading_by, row_text, rows_after, settled, walk, walk_from, with_default, with_values}
+use Rattle.clap.specs.Walk.{Names, Row, Rule, Text, action_of, all_of, default_rows, finished, has_row, is_empty, more_values, nothing_held, one_of, reading_by, row_text, rows_after, settled, walk, walk_from, with_default, with_values}
 use Rattle.clap.specs.declared.builder.value_parser.Reading.{Reading}
 use Rattle.clap.specs.declared.parser.matches.ValueSource.{ValueSource}
 use Rattle.clap.specs.declared.parser.matches.ValueSource.TheVariants.{DefaultValue}
-use Rattle.pcs_words.proofs.UsesPass.{Good, both-true, gives_value, neither, values-passed, with_values-good}
+use Rattle.pcs_words.proofs.UsesPass.{Good, gives_value, neither, values-passed, with_values-good}
 use Rattle.pcs_words.proofs.WalkPasses.{Only, settled-good, walk-good}
 
 -- ---- the defaults
@@ -50,25 +49,17 @@ defaults-good a (b ∷ rules) rows only none good =
 
 -- ---- a row is there
 
-either-left : (a b : Bool) → a ≡ true → (a || b) ≡ true
-either-left true b is = refl
-either-left false b is = absurd (cc)
-
-either-right : (a b : Bool) → b ≡ true → (a || b) ≡ true
-either-right true b is = refl
-either-right false b is = is
-
 same-text : (text : Text) → bytes_eq text text ≡ true
 same-text text = (bytes_eq-Decides text text).1 refl
 
 row-made : (id : Text) (how : Reading) (source : ValueSource) (values : List Text) (rows : List Row) → has_row id (with_values id how source values rows) ≡ true
-row-made id how source values [] = either-left (bytes_eq id id) false (same-text id)
+row-made id how source values [] = or_left (bytes_eq id id) false (same-text id)
 row-made id how source values (r ∷ rows) = go (row-made id how source values rows) (bytes_eq r.id id) refl
   where
     go : has_row id (with_values id how source values rows) ≡ true → (t : Bool) → bytes_eq r.id id ≡ t
         → has_row id (cond t (more_values source values r ++ rows) (r ∷ with_values id how source values rows)) ≡ true
-    go rest true is = either-left (bytes_eq r.id id) _ is
-    go rest false is = either-right (bytes_eq r.id id) _ rest
+    go rest true is = or_left (bytes_eq r.id id) _ is
+    go rest false is = or_right (bytes_eq r.id id) _ rest
 
 row-kept : (id other : Text) (how : Reading) (source : ValueSource) (values : List Text) (rows : List Row)
     → has_row id rows ≡ true → has_row id (with_values other how source values rows) ≡ true
@@ -77,10 +68,10 @@ row-kept id other how source values (r ∷ rows) is = go (row-kept id other how 
   where
     go : (has_row id rows ≡ true → has_row id (with_values other how source values rows) ≡ true) → (own : Bool) → bytes_eq r.id id ≡ own → (t : Bool)
         → (own || has_row id rows) ≡ true → has_row id (cond t (more_values source values r ++ rows) (r ∷ with_values other how source values rows)) ≡ true
-    go rest true own true is = either-left (bytes_eq r.id id) _ own
-    go rest true own false is = either-left (bytes_eq r.id id) _ own
-    go rest false own true is = either-right (bytes_eq r.id id) _ is
-    go rest false own false is = either-right (bytes_eq r.id id) _ (rest is)
+    go rest true own true is = or_left (bytes_eq r.id id) _ own
+    go rest true own false is = or_left (bytes_eq r.id id) _ own
+    go rest false own true is = or_right (bytes_eq r.id id) _ is
+    go rest false own false is = or_right (bytes_eq r.id id) _ (rest is)
 
 default-kept : (id : Text) (b : Rule) (rows : List Row) → has_row id rows ≡ true → has_row id (with_default rows b) ≡ true
 default-kept id b rows is = go (has_row b.id rows) b.defaults
@@ -166,7 +157,7 @@ row-read : (a : Rule) (r : Row) (values : List Text) → values ≡ r.values →
     → (first : Text) × (behind : List Text) × (option_map (λ (x : Row). x.values) (Some r) ≡ Some (first ∷ behind))
     × (row_text r ≡ Some (read_as (reading_by a) first)) × (value_passes a first ≡ true)
 row-read a r [] is some pass reading = absurd (omega arith)
-row-read a r (v ∷ values) is some pass reading = (v, values, ap Some (sym is), rw (← is, reading) refl, (both-true (value_passes a v) _ pass).0)
+row-read a r (v ∷ values) is some pass reading = (v, values, ap Some (sym is), rw (← is, reading) refl, (and_parts (value_passes a v) _ pass).0)
 
 pub good-read : (a : Rule) (rows : List Row) → Good a rows → has_row a.id rows ≡ true → IsRead a rows
 good-read a [] good there = absurd (cc)

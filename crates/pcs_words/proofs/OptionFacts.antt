@@ -1,6 +1,6 @@
 -- The number or the flag that a rule's value is.
-use Rattle.std.proofs.Common.{◌≡◌, ◌∙◌, ◌≤◌, ◌||◌, ℕ, Bool, cond, true, false, not, refl, ap, arith, List, [], ◌∷◌, drop, Some, None, inl, inr, ◌⊎◌}
-use Rattle.std.proofs.Common.{filter, codes, unwrap_or, pos, ne_eqb}
+use Rattle.std.proofs.Common.{◌≡◌, ◌∙◌, ◌≤◌, ◌||◌, ℕ, Bool, cond, true, false, not, refl, ap, arith, List, [], ◌∷◌, drop, Some, None, inl, inr, ◌⊎◌, filter, codes, unwrap_or, pos, ne_eqb}
+use Rattle.std.proofs.lemmas.Bool.{or_cases}
 use Rattle.std.specs.Prelude.{◌==◌}
 use Rattle.std.specs.Str.{bytes_eq}
 use Rattle.std.specs.Str.Parse.{IsNumeral, starts_with_minus, without_leading_plus}
@@ -73,15 +73,11 @@ unsigned-read least most a rows parser read =
 
 -- ---- flags
 
-either-true : (a b : Bool) → (a || b) ≡ true → (a ≡ true) ⊎ (b ≡ true)
-either-true true b is = inl refl
-either-true false b is = inr is
-
 flag-read : (a : Rule) (rows : List Row) → a.parser ≡ Some vp.Bool → IsRead a rows → IsFlag a.id rows
 flag-read a rows parser read =
     let passed : (bytes_eq read.first (codes "true") || bytes_eq read.first (codes "false")) ≡ true = rw parser at read.passes in
     let text : one_of a.id rows ≡ Some read.first = rw parser at read.text in
-    elim (either-true _ _ passed) [
+    elim (or_cases _ _ passed) [
       | inl is ↦ inl (text ∙ ap Some ((bytes_eq-Decides read.first (codes "true")).0 is))
       | inr is ↦ inr (text ∙ ap Some ((bytes_eq-Decides read.first (codes "false")).0 is))
     ]

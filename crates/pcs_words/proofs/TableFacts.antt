@@ -1,13 +1,12 @@
 -- What `clap` computes of the table of commands.
-use Rattle.std.proofs.Common.{◌≡◌, ◌∙◌, Bool, true, false, refl, sym, ap, subst, List, [], ◌∷◌, Some, codes, filter, ◌||◌}
+use Rattle.std.proofs.Common.{◌≡◌, ◌∙◌, true, false, refl, sym, ap, subst, List, [], ◌∷◌, Some, codes, filter}
 use Rattle.std.specs.Str.{bytes_eq}
 use Rattle.clap.specs.Words.{App, Row, Rule, Text, fault_of, is_simple, is_simple_and_free, subcommand_of}
 use Rattle.clap.specs.Simple.{Shape, argument_words, built, built_leaf, filled, with_index}
 use Rattle.clap.specs.Faults.{level_fault}
 use Rattle.clap.specs.Walk.{nothing_held, rows_after}
 use Rattle.clap.proofs.OnLiterals.{clap_on_literals}
-use Rattle.pcs_words.specs.Table.{count_rule, demux_app, encode_app, flag_rule, impair_app, items_rule, mux_app, option_rule, pcap_app, pcs_app}
-use Rattle.pcs_words.specs.Table.{seed_rule, skew_app, trial_app}
+use Rattle.pcs_words.specs.Table.{count_rule, demux_app, encode_app, flag_rule, impair_app, items_rule, mux_app, option_rule, pcap_app, pcs_app, seed_rule, skew_app, trial_app}
 use Rattle.pcs_words.specs.Options.{HasDemux, HasEncode, HasItems, HasMux, HasPcap, HasSkew, HasTrial}
 use Rattle.pcs_words.proofs.Entering.{Enters, accepted-enters, only-shape}
 use Rattle.pcs_words.proofs.OptionFacts.{Answers, flag-of-rule, number-of-rule, rule-read, unsigned-of-rule}
@@ -102,10 +101,6 @@ answers-skew name = record { gives = refl; there = refl; negates = refl; alone =
 
 skew-rows : (name : Text) (rows : List Row) → AreRowsOf (ready (skew_app name)) rows → HasSkew rows
 skew-rows name rows of = rw of.rows_are (number-of-rule 0 100000 skew (ready (skew_app name)) of.rest (answers-skew name) refl of.accepted)
-
--- the command is one of the four
-abbrev pub has_skew : Text → Bool
-has_skew name = bytes_eq name (codes "decode") || bytes_eq name (codes "report") || bytes_eq name (codes "columns") || bytes_eq name (codes "migrate")
 
 skew-only : (filter (λ y. bytes_eq y.name (codes "decode")) (built pcs_app).subs ≡ ready (skew_app (codes "decode")) ∷ [])
     × (filter (λ y. bytes_eq y.name (codes "report")) (built pcs_app).subs ≡ ready (skew_app (codes "report")) ∷ [])

@@ -1,6 +1,6 @@
 -- What one use of an argument leaves in the rows: the values that an argument has passed its parser.
-use Rattle.std.proofs.Common.{◌≡◌, ◌∙◌, ◌<◌, ◌+◌, ◌&&◌, ◌||◌, ℕ, Bool, cond, true, false, not, zero, suc, refl, sym, ap₂, subst, arith, List, []}
-use Rattle.std.proofs.Common.{◌∷◌, ◌++◌, length, min, nat_lt, length-append}
+use Rattle.std.proofs.Common.{◌≡◌, ◌∙◌, ◌<◌, ◌+◌, ◌&&◌, ◌||◌, ℕ, Bool, cond, true, false, not, zero, suc, refl, sym, ap₂, subst, arith, List, [], ◌∷◌, ◌++◌, length, min, nat_lt, length-append}
+use Rattle.std.proofs.lemmas.Bool.{and_parts}
 use Rattle.std.specs.Prelude.{⊤}
 use Rattle.std.specs.List.{list_all}
 use Rattle.std.specs.Str.{bytes_eq}
@@ -12,8 +12,7 @@ use Rattle.clap.specs.Values.{refused_kind}
 use Rattle.clap.specs.Takes.{values_pass, value_passes}
 use Rattle.clap.specs.Kinds.{Kinds, or_else, range_kinds, value_kinds, values_kinds}
 use Rattle.clap.specs.Faults.{action_fault, use_fault, values_fault}
-use Rattle.clap.specs.Walk.{Row, Rule, Text, action_of, at_row, is_empty, more_values, most_values, new_count, reading_by, used, used_as}
-use Rattle.clap.specs.Walk.{values_or_missing, with_count, with_values, without, count_of}
+use Rattle.clap.specs.Walk.{Row, Rule, Text, action_of, at_row, is_empty, more_values, most_values, new_count, reading_by, used, used_as, values_or_missing, with_count, with_values, without, count_of}
 use Rattle.clap.specs.declared.builder.value_parser.Reading.{Reading}
 use Rattle.clap.specs.declared.builder.value_parser.ValueParser.{ValueParser}
 use Rattle.clap.specs.declared.parser.matches.ValueSource.{ValueSource}
@@ -49,10 +48,6 @@ gives_value a = keeps_values (action_of a) && (nat_lt 0 (unwrap_or_range a.range
 pub neither : (a b : Kinds) → or_else a b ≡ [] → (a ≡ []) × (b ≡ [])
 neither [] b none = (refl, none)
 neither (k ∷ ks) b none = absurd (cc)
-
-pub both-true : (a b : Bool) → (a && b) ≡ true → (a ≡ true) × (b ≡ true)
-both-true true b both = (refl, both)
-both-true false b both = absurd (cc)
 
 value-passed : (ignore_case : Bool) (parser : ValueParser) (text : Text) → value_kinds ignore_case parser text ≡ [] → accepts ignore_case parser text ≡ true
 value-passed ignore_case parser text none = go (accepts ignore_case parser text) none
@@ -98,7 +93,7 @@ some-values a [] gives none = go (nat_lt 0 (unwrap_or_range a.range).start_inclu
 pub use-gives : (again : Bool) (a : Rule) (values : List Text) (rows : List Row) → gives_value a ≡ true → use_fault again a values rows ≡ []
     → (0 < length (values_or_missing a values)) × (values_pass a (values_or_missing a values) ≡ true)
 use-gives again a values rows gives none =
-    let test = both-true (keeps_values (action_of a)) _ gives in
+    let test = and_parts (keeps_values (action_of a)) _ gives in
     let parts = neither (range_kinds (unwrap_or_range a.range).start_inclusive (most_values a) (length values)) _ none in (
       some-values a values test.1 parts.0,
       values-passed _ _ (values_or_missing a values) (values-of-action (action_of a) again a (values_or_missing a values) rows test.0 parts.1),
@@ -170,7 +165,7 @@ used-good again a b values rows only gives none good =
     used_as-good (action_of b) a b.id (reading_by b) (values_or_missing b values) rows keeps joins good
   where
     keeps : b.id ≡ a.id → keeps_values (action_of b) ≡ true
-    keeps is = rw (only is) (both-true (keeps_values (action_of a)) _ gives).0
+    keeps is = rw (only is) (and_parts (keeps_values (action_of a)) _ gives).0
 
     joins : b.id ≡ a.id → Joins a (reading_by b) (values_or_missing b values)
     joins is =

@@ -1,6 +1,6 @@
 -- The feedback register against the values at the roots.
 use Rattle.std.proofs.Common.{◌≡◌, ℕ, zero, suc, ◌+◌, ◌-◌, ◌<◌, ◌≤◌, List, [], ◌∷◌, ◌++◌, length, take, drop, get_or, refl, sym, ap, ap₂, ◌∙◌, arith}
-use Rattle.std.proofs.lemmas.List.{length-take, take-append-drop, length-drop, length-append, get_or-take}
+use Rattle.std.proofs.lemmas.List.{length-take, take-append-drop, length-drop, length-append, get_or-take, nil_from_length}
 use Rattle.std.proofs.Math.Seq.{drop-cons}
 use Rattle.gf1024.specs.Symbol.{Symbol, gf, zero_symbol, sum_of, product_of, alpha}
 use Rattle.gf1024.proofs.FieldLaws.{laws}
@@ -76,11 +76,7 @@ parts register n long =
     ∙ ap (λ z. take n register ++ z)
     (drop-cons register n zero_symbol (omega arith)
     ∙ ap (λ z. get_or register n zero_symbol ∷ z)
-    (none_left (drop (suc n) register) (omega (arith, length-drop (suc n) register))))
-  where
-    none_left : (l : List Symbol) → length l ≡ 0 → l ≡ []
-    none_left [] e = refl
-    none_left (x ∷ l) e = absurd (omega arith)
+    (nil_from_length (drop (suc n) register) (omega (arith, length-drop (suc n) register))))
 
 value_parts : (register : List Symbol) (n : ℕ) (r : Symbol) → length register ≡ suc n
     → value gf register r

@@ -1,6 +1,6 @@
 -- One Horner row over the lanes, and lists that are filled place by place.
-use Rattle.std.proofs.Common.{◌≡◌, ◌≢◌, ℕ, ◌+◌, ◌-◌, ◌<◌, ◌≤◌, ◌⊎◌, inl, inr, List, [], ◌∷◌, length, drop, get_or, replicate, refl, sym, ap, ◌∙◌, subst, arith}
-use Rattle.std.proofs.lemmas.List.{get_or-set_same, get_or-set_other, length-drop}
+use Rattle.std.proofs.Common.{◌≡◌, ◌≢◌, ℕ, ◌+◌, ◌-◌, ◌<◌, ◌≤◌, ◌⊎◌, inl, inr, List, [], length, drop, get_or, replicate, sym, ap, ◌∙◌, subst, arith}
+use Rattle.std.proofs.lemmas.List.{get_or-set_same, get_or-set_other, length-drop, nil_from_length}
 use Rattle.std.proofs.lemmas.Bool.{cases_lt}
 use Rattle.std.proofs.lemmas.Simd.{get_or-replicate}
 use Rattle.std.proofs.Math.ListN.{set}
@@ -23,11 +23,7 @@ put f list i v less ev h k lt = split (cases_lt k i)
         subst (λ z. get_or (set list i v) z zero_symbol ≡ f z) same (get_or-set_same list i v zero_symbol less ∙ ev)
 
 pub nothing_after : (m : List Symbol) (n : ℕ) → length m ≤ n → drop n m ≡ []
-nothing_after m n le = empty (drop n m) (omega (arith, length-drop n m))
-  where
-    empty : (l : List Symbol) → length l ≡ 0 → l ≡ []
-    empty [] e = refl
-    empty (x ∷ l) e = absurd (omega arith)
+nothing_after m n le = nil_from_length (drop n m) (omega (arith, length-drop n m))
 
 pub sums_first : (word sums : List Symbol) (z : Symbol) (j : ℕ) → j < 32 → z ≡ zero_symbol
     → sums ≡ replicate 32 z → get_or sums j zero_symbol ≡ value gf (drop (length word - 0) word) (power gf alpha j)

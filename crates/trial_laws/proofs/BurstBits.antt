@@ -1,5 +1,6 @@
 -- The bits of a burst, one after the other.
 use Rattle.std.proofs.Common.{◌≡◌, ℕ, ◌+◌, ◌*◌, ◌/◌, ◌%◌, ◌^◌, ◌<◌, ◌≤◌, Bool, true, false, List, [], length, get_or, set, refl, sym, ◌∙◌, ap, arith, inl, inr, get_or-set_same, get_or-set_other}
+use Rattle.std.proofs.Math.Bool.{and-false}
 use Rattle.std.specs.Prelude.{◌&&◌, ◌==◌, ◌≢◌, nat_eq, nat_le, nat_lt, bit_xor}
 use Rattle.std.specs.Int.{bit_at}
 use Rattle.std.proofs.lemmas.Bool.{cases_eq, cases_lt, eq-eqb, ne_eqb, le-leb, lt-leb, lt-ltb, le-ltb}
@@ -80,7 +81,3 @@ no-place bit l lane first m low = elim (cases_lt m first) [
   | inr since ↦
       rw (le-ltb m first since) (omega (arith, low, ap bit_of (ap (λ b. l == lane && b) (and-false (nat_le first m)) ∙ and-false (l == lane))))
 ]
-  where
-    and-false : (b : Bool) → (b && false) ≡ false
-    and-false true = refl
-    and-false false = refl

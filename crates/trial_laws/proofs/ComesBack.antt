@@ -1,5 +1,6 @@
 -- Where a trial locks truly, all frames come back, and each wrong symbol is told as corrected.
 use Rattle.std.proofs.Common.{◌≡◌, ℕ, zero, suc, ◌+◌, ◌-◌, ◌*◌, ◌<◌, ◌≤◌, ◌++◌, ◌&&◌, Bool, true, false, List, [], ◌∷◌, length, map, Option, Some, None, is_some, refl, sym, ap, ap₂, ◌∙◌, inl, inr, arith}
+use Rattle.std.proofs.Math.Bool.{and-false}
 use Rattle.std.specs.Prelude.{not, sum_by, unwrap_or, option_map, bytes_eq, filter_map}
 use Rattle.std.proofs.lemmas.Bool.{cases_lt, eq-eqb, and_parts}
 use Rattle.std.proofs.lemmas.List.{append_assoc, append-nil, length-append, length-replicate}
@@ -105,11 +106,7 @@ unfolding third_bad
 never-lost pairs none =
     least-isnt (are_bad pairs) 2 (length pairs - 2)
     (λ k low high. ap (λ b. is_bad pairs (k - 2) && is_bad pairs (k - 1) && b) (none k (omega (arith, low, high)))
-    ∙ no_more (is_bad pairs (k - 2) && is_bad pairs (k - 1)))
-  where
-    no_more : (b : Bool) → (b && false) ≡ false
-    no_more true = refl
-    no_more false = refl
+    ∙ and-false (is_bad pairs (k - 2) && is_bad pairs (k - 1)))
 
 events-whole : (c : Capture) (skew : ℕ) (o : Order) → align c skew 0 ≡ aligned o → third_bad (pairs_of c o) ≡ None
     → events c skew 0 ≡ alignment o ∷ (joined (length (pairs_of c o)) (frame_events c.period (pairs_of c o)) ++ []) ++ []

@@ -1,5 +1,6 @@
 -- Frames that come are compared with those that are made.
-use Rattle.std.proofs.Common.{◌≡◌, ℕ, zero, suc, ◌+◌, Bool, true, false, ◌&&◌, List, [], ◌∷◌, ◌++◌, length, drop, None, refl, sym, ◌∙◌, ap, ap₂, arith, append-nil}
+use Rattle.std.proofs.Common.{◌≡◌, ℕ, zero, suc, ◌+◌, ◌&&◌, List, [], ◌∷◌, ◌++◌, length, drop, None, refl, sym, ◌∙◌, ap, ap₂, arith, append-nil}
+use Rattle.std.proofs.Math.Bool.{and-true, and_assoc}
 use Rattle.std.specs.Prelude.{nat_eq, sum_by, bytes_eq}
 use Rattle.std.proofs.lemmas.Bool.{ne_eqb}
 use Rattle.std.proofs.lemmas.List.Elements.{filter_map-append}
@@ -23,14 +24,6 @@ pub length-made : (state n : ℕ) → length (made_frames state n) ≡ n
 length-made state zero = ap length (none-made state)
 length-made state (suc n) = ap length (next-made state n) ∙ ap suc (length-made (behind_frame state) n)
 
-and-assoc : (a b c : Bool) → (a && (b && c)) ≡ ((a && b) && c)
-and-assoc true b c = refl
-and-assoc false b c = refl
-
-and-true : (a : Bool) → (a && true) ≡ a
-and-true true = refl
-and-true false = refl
-
 -- one frame more
 pub one-frame : (back made : List (List ℕ)) (given : List ℕ)
     → are_front (back ++ given ∷ []) made ≡ (are_front back made && is_next given (drop (length back) made))
@@ -38,7 +31,7 @@ one-frame [] [] given = refl
 one-frame [] (m ∷ made) given = and-true (bytes_eq given m)
 one-frame (b ∷ back) [] given = refl
 one-frame (b ∷ back) (m ∷ made) given =
-    ap (λ t. bytes_eq b m && t) (one-frame back made given) ∙ and-assoc (bytes_eq b m) (are_front back made) (is_next given (drop (length back) made))
+    ap (λ t. bytes_eq b m && t) (one-frame back made given) ∙ sym (and_assoc (bytes_eq b m) (are_front back made) (is_next given (drop (length back) made)))
 
 -- a front of all is all where none is left
 pub all-same : (back made : List (List ℕ)) → are_same back made ≡ (are_front back made && nat_eq (length (drop (length back) made)) 0)
@@ -46,7 +39,7 @@ all-same [] [] = refl
 all-same [] (m ∷ made) = sym (ne_eqb (suc (length made)) 0 (λ none. omega (arith, none)))
 all-same (b ∷ back) [] = refl
 all-same (b ∷ back) (m ∷ made) =
-    ap (λ t. bytes_eq b m && t) (all-same back made) ∙ and-assoc (bytes_eq b m) (are_front back made) (nat_eq (length (drop (length back) made)) 0)
+    ap (λ t. bytes_eq b m && t) (all-same back made) ∙ sym (and_assoc (bytes_eq b m) (are_front back made) (nat_eq (length (drop (length back) made)) 0))
 
 pub more-corrected : (es : List Event) (e : Event) → sum_by corrected_of (es ++ e ∷ []) ≡ sum_by corrected_of es + corrected_of e
 more-corrected es e = sum_by-append corrected_of es (e ∷ []) ∙ ap (λ n. sum_by corrected_of es + n) (omega arith)

@@ -1,4 +1,4 @@
-use Rattle.std.proofs.Common.{◌≡◌, ℕ, ◌+◌, ◌≤◌, drop, length, Option, Some, None, subst, arith, length-drop}
+use Rattle.std.proofs.Common.{ℕ, ◌≤◌, Option, Some, None, subst, arith, length-drop}
 use Rattle.pcs_receive.specs.declared.receiver.Lead.{Lead}
 use Rattle.pcs_receive.specs.declared.receiver.Lead.TheVariants as lead
 use Rattle.pcs_receive.specs.State.{State, left_count, lead_count, loss_count}
