@@ -1,5 +1,5 @@
 // The rows of a pair, cut out of the last beats.
-ghost use Rattle.std.specs.Prelude.{◌≡◌, ◌≢◌, ◌≤◌, ◌<◌, ◌+◌, ◌-◌, ◌*◌, ◌/◌, ◌%◌, ◌^◌, ◌==◌, ◌++◌, ◌∷◌, [], All, ℕ, length, position, slice_index, slice_index_or, unwrap_or};
+ghost use Rattle.std.specs.Prelude.{◌≡◌, ◌≢◌, ◌≤◌, ◌<◌, ◌+◌, ◌-◌, ◌*◌, ◌/◌, ◌%◌, ◌^◌, ◌==◌, ◌++◌, ◌∷◌, [], All, IsTrue, ℕ, length, position, slice_index, slice_index_or, unwrap_or};
 ghost use Rattle.bit_lists.specs.Places.{for_each};
 ghost use Rattle.gf1024.specs.Symbol.{symbol};
 ghost use Rattle.lane_deskew.specs.State.{kept_rows, kept_row};
@@ -7,6 +7,7 @@ ghost use Rattle.lane_deskew.specs.State.{kept_rows, kept_row};
 use crate::Order;
 use circular_buffer::HeapCircularBuffer;
 use gf1024::Gf;
+use std::simd::prelude::*;
 
 // Puts the rows of pair `i` in their place. Its arrays are large, so it isn't inlined where every beat would pay for them.
 #[inline(never)]
@@ -23,16 +24,17 @@ pub fn read_rows(
 {
     let skipped = beats.saturating_sub(kept.len() as u64);
     let (front, back) = kept.as_slices();
-    let mut octets = [[0; 16]; 88];
+    let mut lanes = [0; 16];
+    let mut froms = [0; 16];
     let mut shifts = [0; 16];
     for u in 0..16usize {
         let lane = lane_of(&order.numbers, u as u8);
         let place = order.places[lane] + 680 * i;
-        let from = (place / 8).saturating_sub(skipped) as usize;
-        put_lane(&mut octets, u, front, back, from, lane);
+        lanes[u] = lane as u8;
+        froms[u] = (place / 8).saturating_sub(skipped) as usize;
         shifts[u] = (place % 8) as u16;
     }
-    cut_rows(rows, &octets, &shifts);
+    cut_rows(rows, &octets_from(front, back, &froms, &lanes), &shifts);
 }
 
 // The capture lane that carries a number.
@@ -46,6 +48,86 @@ fn lane_of(numbers: &[u8; 16], number: u8) -> usize
         }
     }
     0
+}
+
+// The octets of lanes that begin in these beats, 88 of each, where 0 stands for those past the last beat. Lanes mostly begin in
+// the same beat.
+#[inline]
+fn octets_from(
+    front: &[[u8; 16]],
+    back: &[[u8; 16]],
+    froms: &[usize; 16],
+    lanes: &[u8; 16],
+) -> [[u8; 16]; 88]
+    requires sizes { All (λ n. n < 2 ^ 60) froms.now × All (λ n. n < 16) lanes.now }
+    ensures { (k v : ℕ) → k < 88 → v < 16 → slice_index (slice_index_or result k []) v
+        ≡ slice_index (slice_index_or (front.now ++ back.now) (slice_index froms.now v + k) []) (slice_index lanes.now v) }
+{
+    if begin_together(froms) {
+        return beats_from(front, back, froms[0], lanes);
+    }
+    let mut octets = [[0; 16]; 88];
+    for u in 0..16usize {
+        put_lane(&mut octets, u, front, back, froms[u], lanes[u] as usize);
+    }
+    octets
+}
+
+// Whether all lanes begin in the same beat.
+fn begin_together(froms: &[usize; 16]) -> bool
+    ensures { IsTrue result → (v : ℕ) → v < 16 → slice_index froms.now v ≡ slice_index froms.now 0 }
+{
+    for u in 0..16usize {
+        if froms[u] != froms[0] {
+            return false;
+        }
+    }
+    true
+}
+
+// The same of lanes that all begin in beat `from`.
+#[inline(always)]
+fn beats_from(
+    front: &[[u8; 16]],
+    back: &[[u8; 16]],
+    from: usize,
+    lanes: &[u8; 16],
+) -> [[u8; 16]; 88]
+    requires sizes { (from < 2 ^ 60) × All (λ n. n < 16) lanes.now }
+    ensures { (k v : ℕ) → k < 88 → v < 16 → slice_index (slice_index_or result k []) v
+        ≡ slice_index (slice_index_or (front.now ++ back.now) (from + k) []) (slice_index lanes.now v) }
+{
+    let mut octets = [[0; 16]; 88];
+    for k in 0..88usize {
+        octets[k] = ordered(beat_at(front, back, from + k), lanes);
+    }
+    octets
+}
+
+// The octets of a beat in the order of these lanes.
+#[inline(always)]
+fn ordered(beat: &[u8; 16], lanes: &[u8; 16]) -> [u8; 16]
+    requires { All (λ n. n < 16) lanes.now }
+    ensures { (v : ℕ) → v < 16 → slice_index result v ≡ slice_index beat.now (slice_index lanes.now v) }
+{
+    u8x16::from_array(*beat)
+        .swizzle_dyn(u8x16::from_array(*lanes))
+        .to_array()
+}
+
+static NO_OCTETS: [u8; 16] = [0; 16];
+
+#[inline(always)]
+fn beat_at<'a>(front: &'a [[u8; 16]], back: &'a [[u8; 16]], at: usize) -> &'a [u8; 16]
+    ensures { (l : ℕ) → slice_index result.now l ≡ slice_index (slice_index_or (front.now ++ back.now) at []) l }
+{
+    if at < front.len() {
+        &front[at]
+    } else if at - front.len() < back.len() {
+        &back[at - front.len()]
+    } else {
+        &NO_OCTETS
+    }
 }
 
 // Puts the octets of a lane in these beats, from beat `from` on, into column `u`, where 0 stands for those past the last one.
