@@ -105,10 +105,3 @@ kept_rows-is n c kept o i is low high =
     ap (λ xs. symbol (number xs)) (ten-bits n c kept l at k is early small (omega (arith, high u))
     ∙ ap (λ xs. slice_range xs (10 * k) (10 * k + 10))
     (sym (at-for_each 16 (λ v. slice_range (lane c (lane_with o v)) (slice_index o.places (lane_with o v) + 680 * i) (slice_index o.places (lane_with o v) + 680 * i + 680)) u [] few)))))
-
--- octets read by the places of the kept beats
-pub kept_octets-is : (kept xs : List (List ℕ)) (beats first from l : ℕ) → xs ≡ kept → from ≡ first - (beats - length kept)
-    → for_each 88 (λ j. slice_index (slice_index_or xs (from + j) []) l) ≡ kept_octets kept beats first l
-unfolding kept_octets
-kept_octets-is kept xs beats first from l is at =
-    ap₂ (λ ys n. for_each 88 (λ j. slice_index (slice_index_or ys (n + j) []) l)) is at

@@ -13,7 +13,7 @@ use Rattle.lane_deskew.specs.declared.Order.{Order}
 use Rattle.lane_deskew.specs.Alignments.{Alignment, unfound, failed, aligned, align}
 use Rattle.lane_deskew.specs.Ends.{end_of}
 use Rattle.lane_deskew.specs.Pairs.{pairs_there, lane_with}
-use Rattle.lane_deskew.specs.Lanes.{Lanes, LanesStand, lanes_held, lanes_room}
+use Rattle.lane_deskew.specs.Lanes.{Lanes, LanesStand, column, lanes_held, lanes_room}
 use Rattle.lane_deskew.specs.Turns.{Hunt, rows_by}
 
 -- What an aligner knows: the skew limit, the locks, how many beats were taken, the last of them, how many it has room for, the
@@ -81,11 +81,11 @@ unfoldable pub kept_octets : List (List ℕ) → ℕ → ℕ → ℕ → List �
 kept_octets kept beats first l =
     for_each 88 (λ j. slice_index (slice_index_or kept (first - (beats - length kept) + j) []) l)
 
--- row k of pieces that begin so many bits into their first octets
+-- row k of pieces that begin so many bits into the first octets of their lanes
 unfoldable pub kept_row : List (List ℕ) → List ℕ → ℕ → List Symbol
 kept_row octets shifts k =
     for_each 16 (λ u. let at = slice_index shifts u + 10 * k in
-    symbol (number (slice_range (all_bits 8 (slice_index_or octets u [])) at (at + 10))))
+    symbol (number (slice_range (all_bits 8 (column u octets)) at (at + 10))))
 
 -- the rows of pair i, read in the kept beats
 unfoldable pub kept_rows : List (List ℕ) → ℕ → Order → ℕ → List (List Symbol)

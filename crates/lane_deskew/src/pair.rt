@@ -1,13 +1,13 @@
 // The rows of a pair, cut out of the last beats.
-ghost use Rattle.std.specs.Prelude.{◌≡◌, ◌≤◌, ◌<◌, ◌+◌, ◌-◌, ◌*◌, ◌/◌, ◌%◌, ◌^◌, ◌==◌, ◌++◌, ◌∷◌, [], All, ℕ, drop, length, position, slice_index, slice_index_or, take, unwrap_or};
-ghost use Rattle.bit_lists.specs.Bits.{bits, all_bits};
+ghost use Rattle.std.specs.Prelude.{◌≡◌, ◌≢◌, ◌≤◌, ◌<◌, ◌+◌, ◌-◌, ◌*◌, ◌/◌, ◌%◌, ◌^◌, ◌==◌, ◌++◌, ◌∷◌, [], All, IsTrue, ℕ, length, position, slice_index, slice_index_or, unwrap_or};
 ghost use Rattle.bit_lists.specs.Places.{for_each};
 ghost use Rattle.gf1024.specs.Symbol.{symbol};
-ghost use Rattle.lane_deskew.specs.State.{kept_octets, kept_rows, kept_row};
+ghost use Rattle.lane_deskew.specs.State.{kept_rows, kept_row};
 
 use crate::Order;
 use circular_buffer::HeapCircularBuffer;
 use gf1024::Gf;
+use std::simd::prelude::*;
 
 // Puts the rows of pair `i` in their place. Its arrays are large, so it isn't inlined where every beat would pay for them.
 #[inline(never)]
@@ -24,20 +24,17 @@ pub fn read_rows(
 {
     let skipped = beats.saturating_sub(kept.len() as u64);
     let (front, back) = kept.as_slices();
-    let mut octets = [[0; 88]; 16];
+    let mut lanes = [0; 16];
+    let mut froms = [0; 16];
     let mut shifts = [0; 16];
     for u in 0..16usize {
         let lane = lane_of(&order.numbers, u as u8);
         let place = order.places[lane] + 680 * i;
-        octets[u] = octets_from(
-            front,
-            back,
-            (place / 8).saturating_sub(skipped) as usize,
-            lane,
-        );
-        shifts[u] = (place % 8) as u32;
+        lanes[u] = lane as u8;
+        froms[u] = (place / 8).saturating_sub(skipped) as usize;
+        shifts[u] = (place % 8) as u16;
     }
-    cut_rows(rows, &octets, &shifts);
+    cut_rows(rows, &octets_from(front, back, &froms, &lanes), &shifts);
 }
 
 // The capture lane that carries a number.
@@ -53,50 +50,142 @@ fn lane_of(numbers: &[u8; 16], number: u8) -> usize
     0
 }
 
-// The octets of a lane in these beats, from beat `from` on, and 0 past the last one.
+// The octets of lanes that begin in these beats, 88 of each, where 0 stands for those past the last beat. Lanes mostly begin in
+// the same beat.
 #[inline]
-fn octets_from(front: &[[u8; 16]], back: &[[u8; 16]], from: usize, lane: usize) -> [u8; 88]
-    requires { (from < 2 ^ 60) × (lane < 16) }
-    ensures { result ≡ for_each 88 (λ j. slice_index (slice_index_or (front.now ++ back.now) (from + j) []) lane) }
+fn octets_from(
+    front: &[[u8; 16]],
+    back: &[[u8; 16]],
+    froms: &[usize; 16],
+    lanes: &[u8; 16],
+) -> [[u8; 16]; 88]
+    requires sizes { All (λ n. n < 2 ^ 60) froms.now × All (λ n. n < 16) lanes.now }
+    ensures { (k v : ℕ) → k < 88 → v < 16 → slice_index (slice_index_or result k []) v
+        ≡ slice_index (slice_index_or (front.now ++ back.now) (slice_index froms.now v + k) []) (slice_index lanes.now v) }
 {
-    let mut octets = [0; 88];
-    let ahead = front.len().saturating_sub(from).min(88);
-    let end = (front.len() + back.len()).saturating_sub(from).min(88);
-    put_octets(&mut octets, 0, ahead, front, from, lane);
-    put_octets(
-        &mut octets,
-        ahead,
-        end,
-        back,
-        from.saturating_sub(front.len()),
-        lane,
-    );
+    if begin_together(froms) {
+        return beats_from(front, back, froms[0], lanes);
+    }
+    let mut octets = [[0; 16]; 88];
+    for u in 0..16usize {
+        put_lane(&mut octets, u, front, back, froms[u], lanes[u] as usize);
+    }
     octets
 }
 
-// Puts the octets of a lane from beat `first` on at the places from `at` to `end`.
+// Whether all lanes begin in the same beat.
+fn begin_together(froms: &[usize; 16]) -> bool
+    ensures { IsTrue result → (v : ℕ) → v < 16 → slice_index froms.now v ≡ slice_index froms.now 0 }
+{
+    for u in 0..16usize {
+        if froms[u] != froms[0] {
+            return false;
+        }
+    }
+    true
+}
+
+// The same of lanes that all begin in beat `from`.
+#[inline(always)]
+fn beats_from(
+    front: &[[u8; 16]],
+    back: &[[u8; 16]],
+    from: usize,
+    lanes: &[u8; 16],
+) -> [[u8; 16]; 88]
+    requires sizes { (from < 2 ^ 60) × All (λ n. n < 16) lanes.now }
+    ensures { (k v : ℕ) → k < 88 → v < 16 → slice_index (slice_index_or result k []) v
+        ≡ slice_index (slice_index_or (front.now ++ back.now) (from + k) []) (slice_index lanes.now v) }
+{
+    let mut octets = [[0; 16]; 88];
+    for k in 0..88usize {
+        octets[k] = ordered(beat_at(front, back, from + k), lanes);
+    }
+    octets
+}
+
+// The octets of a beat in the order of these lanes.
+#[inline(always)]
+fn ordered(beat: &[u8; 16], lanes: &[u8; 16]) -> [u8; 16]
+    requires { All (λ n. n < 16) lanes.now }
+    ensures { (v : ℕ) → v < 16 → slice_index result v ≡ slice_index beat.now (slice_index lanes.now v) }
+{
+    u8x16::from_array(*beat)
+        .swizzle_dyn(u8x16::from_array(*lanes))
+        .to_array()
+}
+
+static NO_OCTETS: [u8; 16] = [0; 16];
+
+#[inline(always)]
+fn beat_at<'a>(front: &'a [[u8; 16]], back: &'a [[u8; 16]], at: usize) -> &'a [u8; 16]
+    ensures { (l : ℕ) → slice_index result.now l ≡ slice_index (slice_index_or (front.now ++ back.now) at []) l }
+{
+    if at < front.len() {
+        &front[at]
+    } else if at - front.len() < back.len() {
+        &back[at - front.len()]
+    } else {
+        &NO_OCTETS
+    }
+}
+
+// Puts the octets of a lane in these beats, from beat `from` on, into column `u`, where 0 stands for those past the last one.
+#[inline]
+fn put_lane(
+    octets: &mut [[u8; 16]; 88],
+    u: usize,
+    front: &[[u8; 16]],
+    back: &[[u8; 16]],
+    from: usize,
+    lane: usize,
+)
+    requires sizes { (u < 16) × (from < 2 ^ 60) × (lane < 16) }
+    requires none { (k : ℕ) → k < 88 → slice_index (slice_index_or octets.old k []) u ≡ 0 }
+    ensures put { (k : ℕ) → k < 88 → slice_index (slice_index_or octets.new k []) u ≡ slice_index (slice_index_or (front.now ++ back.now) (from + k) []) lane }
+    ensures beside { (k v : ℕ) → v ≢ u → slice_index (slice_index_or octets.new k []) v ≡ slice_index (slice_index_or octets.old k []) v }
+{
+    let ahead = front.len().saturating_sub(from).min(88);
+    let end = (front.len() + back.len()).saturating_sub(from).min(88);
+    let first = from.saturating_sub(front.len());
+    put_octets(octets, u, 0, ahead, front, from, lane);
+    put_octets(octets, u, ahead, end, back, first, lane);
+}
+
+// Puts the octets of a lane from beat `first` on into column `u`, from row `at` to row `end`.
 #[inline(always)]
 fn put_octets(
-    octets: &mut [u8; 88],
+    octets: &mut [[u8; 16]; 88],
+    u: usize,
     at: usize,
     end: usize,
     beats: &[[u8; 16]],
     first: usize,
     lane: usize,
 )
-    requires sizes { (at ≤ end) × (end ≤ 88) × (lane < 16) × (first < 2 ^ 60) }
+    requires sizes { (u < 16) × (at ≤ end) × (end ≤ 88) × (lane < 16) × (first < 2 ^ 60) }
     requires there { (k : ℕ) → at ≤ k → k < end → first + (k - at) < length beats.now }
-    ensures put { (k : ℕ) → at ≤ k → k < end → slice_index octets.new k ≡ slice_index (slice_index_or beats.now (first + (k - at)) []) lane }
-    ensures before { (k : ℕ) → k < at → slice_index octets.new k ≡ slice_index octets.old k }
-    ensures behind { (k : ℕ) → end ≤ k → slice_index octets.new k ≡ slice_index octets.old k }
+    ensures put { (k : ℕ) → at ≤ k → k < end → slice_index (slice_index_or octets.new k []) u ≡ slice_index (slice_index_or beats.now (first + (k - at)) []) lane }
+    ensures before { (k : ℕ) → k < at → slice_index_or octets.new k [] ≡ slice_index_or octets.old k [] }
+    ensures behind { (k : ℕ) → end ≤ k → slice_index_or octets.new k [] ≡ slice_index_or octets.old k [] }
+    ensures beside { (k v : ℕ) → v ≢ u → slice_index (slice_index_or octets.new k []) v ≡ slice_index (slice_index_or octets.old k []) v }
 {
     for j in at..end {
-        octets[j] = beats[first + (j - at)][lane];
+        put_octet(&mut octets[j], u, beats[first + (j - at)][lane]);
     }
 }
 
-// The rows of pieces that begin so many bits into their first octets. Four rows of a lane are five octets.
-fn cut_rows(rows: &mut [[Gf; 16]; 68], octets: &[[u8; 88]; 16], shifts: &[u32; 16])
+#[inline(always)]
+fn put_octet(row: &mut [u8; 16], u: usize, octet: u8)
+    requires { u < 16 }
+    ensures put { slice_index row.new u ≡ octet }
+    ensures beside { (v : ℕ) → v ≢ u → slice_index row.new v ≡ slice_index row.old v }
+{
+    row[u] = octet;
+}
+
+// The rows of pieces that begin so many bits into the first octets of their lanes. Four rows of a lane are five octets.
+fn cut_rows(rows: &mut [[Gf; 16]; 68], octets: &[[u8; 16]; 88], shifts: &[u16; 16])
     requires { All (λ n. n < 8) shifts.now }
     ensures { rows.new ≡ for_each 68 (kept_row octets.now shifts.now) }
 {
@@ -109,9 +198,9 @@ fn cut_rows(rows: &mut [[Gf; 16]; 68], octets: &[[u8; 88]; 16], shifts: &[u32; 1
     }
 }
 
-// The rows from row `4 * k` on.
+// The rows from row `4 * k` on. The loop is one of vectors.
 #[inline]
-fn four_rows(octets: &[[u8; 88]; 16], shifts: &[u32; 16], k: usize) -> [[Gf; 16]; 4]
+fn four_rows(octets: &[[u8; 16]; 88], shifts: &[u16; 16], k: usize) -> [[Gf; 16]; 4]
     requires { (k < 17) × All (λ n. n < 8) shifts.now }
     ensures { result ≡ kept_row octets.now shifts.now (4 * k) ∷ kept_row octets.now shifts.now (4 * k + 1)
         ∷ kept_row octets.now shifts.now (4 * k + 2) ∷ kept_row octets.now shifts.now (4 * k + 3) ∷ [] }
@@ -120,38 +209,42 @@ fn four_rows(octets: &[[u8; 88]; 16], shifts: &[u32; 16], k: usize) -> [[Gf; 16]
     let mut second = [Gf::low(0); 16];
     let mut third = [Gf::low(0); 16];
     let mut fourth = [Gf::low(0); 16];
+    let at = 5 * k;
     for u in 0..16usize {
-        let word = word_at(&octets[u], 5 * k) >> shifts[u];
-        first[u] = ten_of(word);
-        second[u] = ten_of(word >> 10);
-        third[u] = ten_of(word >> 20);
-        fourth[u] = ten_of(word >> 30);
+        let shift = shifts[u];
+        let a = octets[at][u];
+        let b = octets[at + 1][u];
+        let c = octets[at + 2][u];
+        let d = octets[at + 3][u];
+        let e = octets[at + 4][u];
+        let f = octets[at + 5][u];
+        first[u] = ten_bits(a, b, c, shift, 0);
+        second[u] = ten_bits(b, c, d, shift, 2);
+        third[u] = ten_bits(c, d, e, shift, 4);
+        fourth[u] = ten_bits(d, e, f, shift, 6);
     }
     [first, second, third, fourth]
 }
 
-// The bits of eight octets.
+// The ten bits of three octets from bit `shift + more` on.
 #[inline(always)]
-fn word_at(octets: &[u8; 88], at: usize) -> u64
-    requires { at ≤ 80 }
-    ensures { bits 64 result ≡ all_bits 8 (take 8 (drop at octets.now)) }
+fn ten_bits(first: u8, second: u8, third: u8, shift: u16, more: u16) -> Gf
+    requires { (shift < 8) × (more ≤ 6) }
+    ensures symbol { result ≡ symbol ((first + 256 * second + 65536 * third) / 2 ^ (shift + more) % 1024) }
+    ensures octets { (first < 256) × (second < 256) × (third < 256) }
 {
-    u64::from_le_bytes([
-        octets[at],
-        octets[at + 1],
-        octets[at + 2],
-        octets[at + 3],
-        octets[at + 4],
-        octets[at + 5],
-        octets[at + 6],
-        octets[at + 7],
-    ])
+    let low = moved(first, second, shift);
+    let high = moved(second, third, shift);
+    Gf::low(((low >> more) + (high << (8 - more))) % 1024)
 }
 
-// The symbol of the ten lowest bits.
+// The octet that begins at bit `shift` of the first of these, by products, which vectors have.
 #[inline(always)]
-fn ten_of(word: u64) -> Gf
-    ensures { result ≡ symbol (word % 1024) }
+fn moved(first: u8, second: u8, shift: u16) -> u16
+    requires { shift < 8 }
+    ensures octet { (n : ℕ) → first ≡ n % 256 → second ≡ n / 256 % 256 → result ≡ n / 2 ^ shift % 256 }
+    ensures small { result < 256 }
 {
-    Gf::low((word % 1024) as u16)
+    let factor = 256 >> shift;
+    first as u16 * factor / 256 + second as u16 * factor % 256
 }

@@ -1,38 +1,19 @@
-use Rattle.std.proofs.Common.{◌≡◌, ◌+◌, ◌-◌, ◌++◌, [], length, sym, ap, ◌∙◌, inl, inr, arith, length-append}
-use Rattle.std.specs.Prelude.{slice_index, slice_index_or}
-use Rattle.std.proofs.lemmas.Bool.{cases_lt}
-use Rattle.std.proofs.lemmas.List.{get_or_append_left, get_or-append-add, get_or_past, get_or-replicate}
-use Rattle.bit_lists.proofs.ByPlaces.{by_places}
+use Rattle.std.proofs.Common.{[], ap, replicate, ◌∙◌, arith, below_more}
+use Rattle.std.specs.Prelude.{slice_index}
+use Rattle.std.proofs.lemmas.List.{get_or-replicate}
 use Rattle.lane_deskew.proofs.pair.octets_from.Goals as goal
 
-pub returns : goal.returns
-returns c =
-    let front = c.args.front.now in
-    let back = c.args.back.now in
-    let from = c.args.from in
-    let ahead = c.min-ahead.result in
-    let end = c.min-end.result in
-    let whole = length-append front back in
-    let ahead_is = c.min-ahead.ensures in
-    let end_is = c.min-end.ensures in
-    let left = c.saturating_sub.ensures in
-    let both = c.saturating_sub-2.ensures in
-    let past = c.saturating_sub-3.ensures in
-    by_places 88 (λ j. slice_index (slice_index_or (front ++ back) (from + j) []) c.args.lane) c.put_octets-2.new.octets 0 c.put_octets-2.array_long
-    (λ k low. elim (cases_lt k ahead) [
-      | inl lt ↦
-          let same : from + (k - 0) ≡ from + k = omega arith in
-          c.put_octets-2.ensures.before k lt ∙ c.put_octets.ensures.put k (omega arith) lt
-          ∙ ap (λ n. slice_index (slice_index_or front n []) c.args.lane) same
-          ∙ sym (ap (λ beat. slice_index beat c.args.lane) (get_or_append_left front back [] (from + k) (omega (arith, lt, ahead_is, left))))
-      | inr ge ↦ elim (cases_lt k end) [
-        | inl lt ↦
-            let at : from + k ≡ length front + (c.saturating_sub-3.result + (k - ahead)) = omega (arith, low, ge, lt, ahead_is, end_is, left, both, past) in
-            c.put_octets-2.ensures.put k ge lt
-            ∙ sym (ap (λ n. slice_index (slice_index_or (front ++ back) n []) c.args.lane) at
-            ∙ ap (λ beat. slice_index beat c.args.lane) (get_or-append-add front back (c.saturating_sub-3.result + (k - ahead)) []))
-        | inr le ↦
-            c.put_octets-2.ensures.behind k le ∙ c.put_octets.ensures.behind k ge ∙ get_or-replicate 88 k 0 0 low
-            ∙ sym (ap (λ beat. slice_index beat c.args.lane) (get_or_past (front ++ back) (from + k) [] (omega (arith, whole, low, le, end_is, both))))
-      ]
-    ])
+pub loop-u-init : goal.loop-u-init
+loop-u-init c = record {
+  done = λ v few. absurd (omega arith);
+  none = λ v k le few low. ap (λ row. slice_index row v) (get_or-replicate 88 k (replicate 16 0) [] low) ∙ get_or-replicate 16 v 0 0 few;
+}
+
+pub loop-u-preserved : goal.loop-u-preserved
+loop-u-preserved c =
+    let inv = c.loop-u.invariant in
+    let put = c.put_lane.ensures in
+    record {
+      done = below_more _ _ (λ v h k few. put.beside k v (omega arith) ∙ inv.done v h k few) put.put;
+      none = λ v k le few low. put.beside k v (omega arith) ∙ inv.none v k (omega arith) few low;
+    }
