@@ -102,18 +102,18 @@ fn number_in(row: &[Gf; 16], lane: usize) -> u16
     row[lane].value()
 }
 
-// The forty wides that a pair carries: those of the messages of its codewords, or zeros where a word
-// has no codeword near it.
-pub fn wides_of(rows: &[[Gf; 16]; 68], corrected: &Corrected) -> [Wide; 40]
+// Replaces the wides by the forty that a pair carries: those of the messages of its codewords, or
+// zeros where a word has no codeword near it.
+pub fn put_wides(wides: &mut [Wide; 40], rows: &[[Gf; 16]; 68], corrected: &Corrected)
     requires { IsCorrectionOf rows.now corrected.now.words.a corrected.now.words.b corrected.now.near_a corrected.now.near_b }
-    ensures bits { flat result ≡ bits_of_pair rows.now }
-    ensures count { length result ≡ 40 }
-    ensures sizes { (i : ℕ) → i < 40 → length (slice_index_or result i []) ≡ 257 }
+    ensures bits { flat wides.new ≡ bits_of_pair rows.now }
+    ensures count { length wides.new ≡ 40 }
+    ensures sizes { (i : ℕ) → i < 40 → length (slice_index_or wides.new i []) ≡ 257 }
 {
     if are_near(corrected.near_a, corrected.near_b) {
-        from_codewords(&corrected.words)
+        from_codewords(&corrected.words, wides);
     } else {
-        zeros()
+        *wides = zeros();
     }
 }
 

@@ -6,18 +6,17 @@ ghost use Rattle.symbol_deal.specs.Left.{bits_left};
 
 use pcs_bits::{BitQueue, Wide};
 
-/// The forty wides whose bits are the first 10,280 of the words.
-pub fn cut_wides(words: &[u64; 161]) -> [Wide; 40]
-    ensures bits { flat result ≡ take 10280 (all_bits 64 words.now) }
-    ensures each { (i : ℕ) → i < 40 → length (slice_index_or result i []) ≡ 257 }
+/// Replaces the wides by the forty whose bits are the first 10,280 of the words.
+pub fn cut_wides(wides: &mut [Wide; 40], words: &[u64; 161])
+    ensures bits { flat wides.new ≡ take 10280 (all_bits 64 words.now) }
+    ensures each { (i : ℕ) → i < 40 → length (slice_index_or wides.new i []) ≡ 257 }
+    ensures count { length wides.new ≡ 40 }
 {
-    let mut wides = [Wide::new([0; 5]); 40];
     let mut rest = BitQueue::new();
     rest.push(words[0], 64);
     for i in 0..40usize {
         wides[i] = cut_wide(words, 4 * i + 1, &mut rest);
     }
-    wides
 }
 
 // Takes a wide off the front of the rest and the words from `at` on.

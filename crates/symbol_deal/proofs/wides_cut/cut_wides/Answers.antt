@@ -1,4 +1,4 @@
-use Rattle.std.proofs.Common.{◌≡◌, ◌≢◌, ◌<◌, ◌+◌, ◌-◌, ◌*◌, ◌∙◌, [], refl, sym, ap, length, arith, length-set, get_or-set_same, get_or-set_other, below_more}
+use Rattle.std.proofs.Common.{◌≡◌, ◌≢◌, ◌<◌, ◌+◌, ◌-◌, ◌*◌, ◌∙◌, [], rules, sym, ap, length, arith, length-set, get_or-set_same, get_or-set_other, below_more}
 use Rattle.bit_lists.specs.Bits.{all_bits}
 use Rattle.bit_lists.proofs.Facts.{length-all_bits}
 use Rattle.bit_lists.proofs.ByPlaces.{flat-nil}
@@ -10,7 +10,7 @@ pub loop-i-init : goal.loop-i-init
 loop-i-init c =
     let words = c.args.words.now in
     record {
-      count = refl;
+      count = search rules;
       size = omega (arith, c.push.ensures.size, ap length c.new-rest.ensures);
       bits = rw flat-nil (one_more words 0 [] c.push.new.self (omega (arith, c.told-words)) (c.push.ensures.bits ∙ rw c.new-rest.ensures));
       each = λ n low. absurd (omega arith);
