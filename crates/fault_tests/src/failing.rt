@@ -1,6 +1,6 @@
 // Each read and each write of each command fails in turn.
 use crate::commands::{ROWS, Row, octets_of, reads_of, run_failing, text_of};
-use pcs_io::Source;
+use pcs_io::{MemSource, Source};
 use pcs_top::Status;
 use std::alloc::{AllocError, Global};
 use std::test::Fail;
@@ -78,8 +78,16 @@ fn octets_with_text(alloc: Global, row: &Row, input: &[u8]) -> Result<usize, All
     Ok(taken)
 }
 
-// Text is written before the source is read again: where the sink has no room, the source still has
-// its next piece. `encode` writes before the first one.
+// How many octets a source has left.
+fn octets_left(source: &mut MemSource) -> usize {
+    let (mut octets, mut count) = ([0; 1024], 0usize);
+    for _ in 0..1000u32 {
+        count = count.saturating_add(source.read(&mut octets).unwrap_or(0));
+    }
+    count
+}
+
+// Where the sink has no room, the source still has all behind the first text; `encode` hasn't read at all.
 #[test]
 fn text_comes_before_the_next_read(rt: HostRuntime) -> Result<(), Fail> {
     let alloc = rt.alloc();
@@ -87,13 +95,9 @@ fn text_comes_before_the_next_read(rt: HostRuntime) -> Result<(), Fail> {
         let input = octets_of(alloc, row.1)?;
         let taken = octets_with_text(alloc, row, &input)?;
         let mut ran = run_failing(alloc, row, &input, 0, &[], &[])?;
-        let mut next = [0; 1024];
-        let count = ran.source.read(&mut next);
-        let left = input.get(taken..).unwrap_or(&[]);
-        let piece = left.get(..row.2).unwrap_or(left);
+        let left = octets_left(&mut ran.source);
         assert_eq!(rt; ran.status, Status::WriteFault, "{}", row.0);
-        assert_eq!(rt; count, Ok(piece.len()), "{}", row.0);
-        assert!(rt; next.starts_with(piece), "{}", row.0);
+        assert_eq!(rt; left, input.len().saturating_sub(taken), "{}", row.0);
     }
     Ok(())
 }
