@@ -5,19 +5,17 @@ ghost use Rattle.bit_lists.specs.Places.{flat};
 
 use pcs_bits::{BitQueue, Wide};
 
-/// The 10,280 bits of forty wides, 64 in a word and the last forty in word 160. The first bit is the
-/// lowest of word 0.
-pub fn to_words(wides: &[Wide; 40]) -> [u64; 161]
-    ensures bits { all_bits 64 (take 160 result) ++ bits 40 (slice_index result 160) ≡ flat wides.now }
-    ensures fits { slice_index result 160 < 2 ^ 40 }
+/// Replaces the words by the 10,280 bits of forty wides, 64 in a word and the last forty in word 160.
+/// The first bit is the lowest of word 0.
+pub fn put_words(words: &mut [u64; 161], wides: &[Wide; 40])
+    ensures bits { all_bits 64 (take 160 words.new) ++ bits 40 (slice_index words.new 160) ≡ flat wides.now }
+    ensures fits { slice_index words.new 160 < 2 ^ 40 }
 {
-    let mut words = [0; 161];
     let mut rest = BitQueue::new();
     for i in 0..40usize {
-        put_wide(&mut words, 4 * i, &mut rest, &wides[i]);
+        put_wide(words, 4 * i, &mut rest, &wides[i]);
     }
     words[160] = rest.pop(40);
-    words
 }
 
 // Puts a wide behind the bits of the words before place `at` and the rest, and fills four words more.

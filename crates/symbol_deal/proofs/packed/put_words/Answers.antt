@@ -1,15 +1,15 @@
-use Rattle.std.proofs.Common.{◌≡◌, ◌+◌, ◌*◌, ◌<◌, ◌∙◌, ap, refl, length, take, arith}
+use Rattle.std.proofs.Common.{◌≡◌, ◌+◌, ◌*◌, ◌<◌, ◌∙◌, ap, rules, length, take, arith}
 use Rattle.std.proofs.lemmas.List.{take_all}
 use Rattle.bit_lists.specs.Bits.{all_bits}
 use Rattle.bit_lists.specs.Places.{flat}
 use Rattle.bit_lists.proofs.Facts.{all_bits-nil}
 use Rattle.bit_lists.proofs.ByPlaces.{flat-nil}
 use Rattle.symbol_deal.proofs.Packing.{wide_more, all_packed}
-use Rattle.symbol_deal.proofs.packed.to_words.Goals as goal
+use Rattle.symbol_deal.proofs.packed.put_words.Goals as goal
 
 pub loop-i-init : goal.loop-i-init
 loop-i-init c = record {
-  long = refl;
+  long = search rules;
   size = ap length c.new-rest.ensures;
   bits = rw (all_bits-nil, flat-nil) (c.new-rest.ensures);
 }

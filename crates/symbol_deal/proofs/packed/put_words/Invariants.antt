@@ -1,7 +1,7 @@
 use Rattle.std.proofs.Common.{◌≡◌, ◌++◌, ◌*◌, take, length}
 use Rattle.bit_lists.specs.Bits.{all_bits}
 use Rattle.bit_lists.specs.Places.{flat}
-use Rattle.symbol_deal.proofs.packed.to_words.Given as goal
+use Rattle.symbol_deal.proofs.packed.put_words.Given as goal
 
 abbrev pub invariant-loop-i : goal.invariant-loop-i
 invariant-loop-i l = record {
