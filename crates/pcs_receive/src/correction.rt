@@ -10,7 +10,7 @@ use gf1024::Gf;
 use pcs_bits::Wide;
 use pcs_watch::Report;
 use rs_decode::correct;
-use symbol_deal::{Codewords, from_codewords, from_rows, to_rows};
+use symbol_deal::{Codewords, from_codewords, split_rows, to_rows};
 
 // The words of a pair, each replaced by the codeword near it where there is one, and in how many
 // places that differed.
@@ -21,17 +21,28 @@ pub struct Corrected {
     pub near_b: Option<u8>,
 }
 
-pub fn correct_pair(rows: &[[Gf; 16]; 68]) -> Corrected
-    ensures { IsCorrectionOf rows.now result.words.a result.words.b result.near_a result.near_b }
-{
-    let mut words = from_rows(rows);
-    let near_a = correct(&mut words.a);
-    let near_b = correct(&mut words.b);
-    Corrected {
-        words,
-        near_a,
-        near_b,
+impl Corrected {
+    // Words of zeros.
+    pub fn new() -> Corrected {
+        let words = Codewords {
+            a: [Gf::low(0); 544],
+            b: [Gf::low(0); 544],
+        };
+        Corrected {
+            words,
+            near_a: None,
+            near_b: None,
+        }
     }
+}
+
+// Replaces the words by those of a pair, corrected.
+pub fn correct_pair(rows: &[[Gf; 16]; 68], corrected: &mut Corrected)
+    ensures { IsCorrectionOf rows.now corrected.new.words.a corrected.new.words.b corrected.new.near_a corrected.new.near_b }
+{
+    split_rows(rows, &mut corrected.words);
+    corrected.near_a = correct(&mut corrected.words.a);
+    corrected.near_b = correct(&mut corrected.words.b);
 }
 
 // The report of a pair, from its rows and its words.
