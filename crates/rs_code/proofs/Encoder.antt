@@ -32,8 +32,7 @@ IsRest r n register part = (j : ℕ) → j < r
 module _ (F : Field) (L : Laws F) where
   open F use {carrier, add, mul, zero_element, one}
 
-  ring_of : (r v p m last : carrier)
-      → add (add zero_element (mul r v)) (mul (add m last) (mul r p)) ≡ add (mul (mul r p) m) (mul r (add v (mul p last)))
+  ring_of : (r v p m last : carrier) → add (add zero_element (mul r v)) (mul (add m last) (mul r p)) ≡ add (mul (mul r p) m) (mul r (add v (mul p last)))
   ring_of r v p m last =
       simp (
         zero_add F L,
@@ -62,15 +61,13 @@ ring : (r v p m last : Symbol)
     ≡ sum_of (product_of (product_of r p) m) (product_of r (sum_of v (product_of p last)))
 ring = ring_of gf laws
 
-value_snoc : (c : List Symbol) (last r : Symbol)
-    → value gf (c ++ last ∷ []) r ≡ sum_of (value gf c r) (product_of (power gf r (length c)) last)
+value_snoc : (c : List Symbol) (last r : Symbol) → value gf (c ++ last ∷ []) r ≡ sum_of (value gf c r) (product_of (power gf r (length c)) last)
 value_snoc c last r =
     value_append c (last ∷ []) r
     ∙ ap (λ z. sum_of (value gf c r) (product_of (power gf r (length c)) (sum_of last z))) (mul_zero gf laws r)
     ∙ ap (λ z. sum_of (value gf c r) (product_of (power gf r (length c)) z)) (laws.add_zero last)
 
-parts : (register : List Symbol) (n : ℕ) → length register ≡ suc n
-    → register ≡ take n register ++ get_or register n zero_symbol ∷ []
+parts : (register : List Symbol) (n : ℕ) → length register ≡ suc n → register ≡ take n register ++ get_or register n zero_symbol ∷ []
 parts register n long =
     sym (take-append-drop n register)
     ∙ ap (λ z. take n register ++ z)
@@ -108,8 +105,7 @@ rest_next r n low is fb m register part long ef h j less =
     ∙ ap (λ z. sum_of (product_of (power gf x (suc n)) m) (product_of x z)) (h j less)
     ∙ collect (power gf x (suc n)) x m (value gf part x)
   where
-    collect : (p r m v : Symbol)
-        → sum_of (product_of p m) (product_of r (product_of p v)) ≡ product_of p (sum_of m (product_of r v))
+    collect : (p r m v : Symbol) → sum_of (product_of p m) (product_of r (product_of p v)) ≡ product_of p (sum_of m (product_of r v))
     collect p r m v = ap (sum_of (product_of p m)) (mul_left gf laws r p v) ∙ sym (laws.mul_add p m (product_of r v))
 
 -- nothing taken: a register of zeros

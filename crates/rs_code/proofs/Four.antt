@@ -91,11 +91,9 @@ record IsAdded (n : ℕ) (f : Symbol) (a r : List Symbol) : Type 0 where
   long : length r ≡ 32
   lane_0 : get_or r 0 zero_symbol ≡ get_or a 0 zero_symbol
   lane_1 : get_or r 1 zero_symbol ≡ get_or a 1 zero_symbol
-  values : (j : ℕ) → j < 30
-      → value gf r (power gf alpha j) ≡ sum_of (value gf a (power gf alpha j)) (product_of f (power gf (power gf alpha j) n))
+  values : (j : ℕ) → j < 30 → value gf r (power gf alpha j) ≡ sum_of (value gf a (power gf alpha j)) (product_of f (power gf (power gf alpha j) n))
 
-added : (n : ℕ) (f : Symbol) (a base m r : List Symbol) → length a ≡ 32 → IsBase n base → m ≡ scaled gf f base → EachLane sum_of a m r
-    → IsAdded n f a r
+added : (n : ℕ) (f : Symbol) (a base m r : List Symbol) → length a ≡ 32 → IsBase n base → m ≡ scaled gf f base → EachLane sum_of a m r → IsAdded n f a r
 added n f a base m r la hb em h = record {
   long = h.long;
   lane_0 = h.each 0 (omega arith) ∙ ap (sum_of (get_or a 0 zero_symbol)) (none 0 hb.lane_0) ∙ laws.add_zero (get_or a 0 zero_symbol);
@@ -135,8 +133,7 @@ value_last_four c x long =
     ∙ ap (λ n. sum_of (value gf (take 28 c) x) (product_of (power gf x n) (value gf out x))) short
 
 -- behind four zeros
-value_behind : (c : List Symbol) (x : Symbol)
-    → value gf (zero_symbol ∷ zero_symbol ∷ zero_symbol ∷ zero_symbol ∷ c) x ≡ four gf laws x (value gf c x)
+value_behind : (c : List Symbol) (x : Symbol) → value gf (zero_symbol ∷ zero_symbol ∷ zero_symbol ∷ zero_symbol ∷ c) x ≡ four gf laws x (value gf c x)
 value_behind c x =
     let z = zero_add gf laws in
     z (product_of x (value gf (zero_symbol ∷ zero_symbol ∷ zero_symbol ∷ c) x))

@@ -5,16 +5,13 @@ use Rattle.gf1024.specs.Symbol.{Symbol, gf, one_symbol, sum_of, product_of, symb
 use Rattle.gf1024.specs.Word.{product, reduced, times_low}
 use Rattle.gf1024.proofs.FieldLaws.{laws, symbol_path, value_product, value_sum}
 use Rattle.gf1024.proofs.Linear.{all_below, all_below_at}
-use Rattle.gf1024.proofs.Views.{symbol_of_value}
 use Rattle.field_base.specs.Field.{power}
 use Rattle.field_base.specs.Poly.{value}
 use Rattle.field_base.proofs.Ring.{one_mul, zero_add}
-use Rattle.rs_code.specs.declared.rows.x30.TheConstants.{X30}
-use Rattle.rs_code.specs.declared.code.TheConstants.{POWERS}
+use Rattle.rs_code.specs.declared.rows.remainders.TheConstants.{X30}
 
 -- the value of a list and of one behind it
-pub value_append : (c d : List Symbol) (x : Symbol)
-    → value gf (c ++ d) x ≡ sum_of (value gf c x) (product_of (power gf x (length c)) (value gf d x))
+pub value_append : (c d : List Symbol) (x : Symbol) → value gf (c ++ d) x ≡ sum_of (value gf c x) (product_of (power gf x (length c)) (value gf d x))
 value_append [] d x = sym (zero_add gf laws (product_of one_symbol (value gf d x)) ∙ one_mul gf laws (value gf d x))
 value_append (c ∷ cs) d x =
     ap (λ z. sum_of c (product_of x z)) (value_append cs d x)
@@ -86,16 +83,3 @@ length_low = refl
 pub low_at_root : (j : ℕ) → j < 30 → value gf generator_low (power gf alpha j) ≡ power gf (power gf alpha j) 30
 unfolding generator_low
 low_at_root j less = low_values generator_numbers 30 30 low_table j less
-
--- the powers, computed on numbers
-abbrev power_at : ℕ → Bool
-power_at j = get_or POWERS j 0 == number_power j
-
-power_table : all_below 32 power_at ≡ true
-unfolding number_power product reduced times_low
-power_table = refl
-
-pub powers_are : (j : ℕ) → j < 32 → symbol (get_or POWERS j 0) ≡ power gf alpha j
-powers_are j less =
-    ap symbol (eqb-true (get_or POWERS j 0) (number_power j) (all_below_at 32 power_at power_table j less)
-    ∙ sym (power_number j)) ∙ symbol_of_value (power gf alpha j)

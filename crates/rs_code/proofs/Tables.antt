@@ -6,10 +6,7 @@ use Rattle.gf1024.proofs.Linear.{all_below}
 use Rattle.field_base.specs.Field.{power}
 use Rattle.field_base.specs.Poly.{value}
 use Rattle.rs_code.specs.Register.{multiples, first_row, AreMultiples}
-use Rattle.rs_code.specs.declared.rows.x30.TheConstants.{X30}
-use Rattle.rs_code.specs.declared.rows.x31.TheConstants.{X31}
-use Rattle.rs_code.specs.declared.rows.x32.TheConstants.{X32}
-use Rattle.rs_code.specs.declared.rows.x33.TheConstants.{X33}
+use Rattle.rs_code.specs.declared.rows.remainders.TheConstants.{X30, X31, X32, X33}
 use Rattle.rs_code.proofs.Generator.{number_value, number_power, steps, low_at, low_values}
 
 pub rows_30 : AreMultiples X30.low X30.high

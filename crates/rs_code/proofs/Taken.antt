@@ -33,8 +33,7 @@ remainder_first start z e ez = record {
     at k less = ap (λ l. get_or l k zero_symbol) e ∙ get_or-replicate 32 k z zero_symbol less ∙ ez
 
 -- zeros above the highest symbols
-without_zeros : (register : List Symbol) (a b z : Symbol) → z ≡ zero_symbol → IsRemainder register (a ∷ b ∷ z ∷ z ∷ [])
-    → IsRemainder register (a ∷ b ∷ [])
+without_zeros : (register : List Symbol) (a b z : Symbol) → z ≡ zero_symbol → IsRemainder register (a ∷ b ∷ z ∷ z ∷ []) → IsRemainder register (a ∷ b ∷ [])
 without_zeros register a b z ez h = record {
   long = h.long;
   lane_0 = h.lane_0;
@@ -129,5 +128,4 @@ same_values word register rest long h long_r each j less =
 pub no_values : (rest word : List Symbol) → length rest ≡ 30 → ((k : ℕ) → k < 30 → get_or rest k zero_symbol ≡ zero_symbol)
     → ((j : ℕ) → j < 30 → value gf rest (power gf alpha j) ≡ value gf word (power gf alpha j))
     → (j : ℕ) → j < 30 → get_or rest j zero_symbol ≡ value gf word (power gf alpha j)
-no_values rest word long none same j less =
-    none j less ∙ sym (zeros rest (power gf alpha j) (λ k l. none k (omega arith))) ∙ same j less
+no_values rest word long none same j less = none j less ∙ sym (zeros rest (power gf alpha j) (λ k l. none k (omega arith))) ∙ same j less

@@ -5,7 +5,8 @@ ghost use Rattle.field_base.specs.Poly.{value};
 ghost use Rattle.rs_code.specs.Near.{coded};
 
 use crate::remainder::remainder;
-use gf_lanes::{Gf32, horner};
+use crate::rows::{by_powers, short_values};
+use gf_lanes::{Gf32, add, horner, mul};
 use gf1024::Gf;
 
 /// Writes the parity of the one codeword with this message, whatever was in `parity`.
@@ -28,12 +29,23 @@ pub fn syndromes(word: &[Gf; 544]) -> [Gf; 30]
     if are_zero(&rest) {
         return rest;
     }
-    let sums = values_in_lanes(&rest);
+    let sums = rest_values(&rest);
     let mut values = [Gf::low(0); 30];
     for j in 0..30usize {
         values[j] = sums.lane(j);
     }
     values
+}
+
+// The values of a remainder at alpha^0 to alpha^31, one a lane: those of its first fifteen symbols,
+// and of the others times x^15.
+#[inline(always)]
+fn rest_values(rest: &[Gf; 30]) -> Gf32
+    ensures { (j : ℕ) → j < 32 → slice_index_or result j zero_symbol ≡ value gf rest.now (power gf alpha j) }
+{
+    let all = &rest[..];
+    let high = mul(by_powers(Gf::low(1), 15), short_values(&all[15..]));
+    add(short_values(&all[..15]), high)
 }
 
 // The remainder of the word by the generator, which has the same values at the roots.
@@ -70,28 +82,11 @@ pub fn values_in_lanes(word: &[Gf]) -> Gf32
     ensures { (j : ℕ) → j < 32
         → slice_index_or result j zero_symbol ≡ value gf word.now (power gf alpha j) }
 {
-    let steps = powers();
+    let steps = by_powers(Gf::low(1), 1);
     let mut sums = Gf32::new([Gf::low(0); 32]);
     let count = word.len();
     for i in 0..count {
         sums = horner(sums, steps, word[count - 1 - i]);
     }
     sums
-}
-
-static POWERS: [u16; 32] = [
-    1, 2, 4, 8, 16, 32, 64, 128, 256, 512, 9, 18, 36, 72, 144, 288, 576, 137, 274, 548, 65, 130,
-    260, 520, 25, 50, 100, 200, 400, 800, 585, 155,
-];
-
-// alpha^0 to alpha^31, one a lane.
-#[inline(always)]
-fn powers() -> Gf32
-    ensures { (j : ℕ) → j < 32 → slice_index_or result j zero_symbol ≡ power gf alpha j }
-{
-    let mut list = [Gf::low(0); 32];
-    for j in 0..32usize {
-        list[j] = Gf::low(POWERS[j]);
-    }
-    Gf32::new(list)
 }

@@ -11,6 +11,7 @@ mod remainder;
 mod rows;
 
 pub use code::{are_zero, encode, syndromes, values_in_lanes};
+pub use rows::{by_powers, short_values};
 
 #[cfg(test)]
 mod tests;

@@ -54,8 +54,7 @@ pub record AreLatest (s : List Symbol) (n : ℕ) (lanes : List Symbol) : Type 0 
   pub long : length lanes ≡ 32
   pub each : (k : ℕ) → k < 32 → get_or lanes k zero_symbol ≡ latest gf laws (sequence s) n k
 
-pub behind_lanes : (x y : Symbol) (c lanes new : List Symbol) → StartsAs 32 (x ∷ lanes) new → x ≡ y → InLanes c lanes
-    → InLanes (y ∷ c) new
+pub behind_lanes : (x y : Symbol) (c lanes new : List Symbol) → StartsAs 32 (x ∷ lanes) new → x ≡ y → InLanes c lanes → InLanes (y ∷ c) new
 behind_lanes x y c lanes new behind same h = record {
   long = behind.long;
   each = λ k less. behind.each k less ∙ ap (λ z. get_or (z ∷ lanes) k zero_symbol) same ∙ at k less;
@@ -89,8 +88,7 @@ lanes_along c s A W P n short ha hw lanes =
     ∙ ap₂ product_of (ha.each k (omega (arith, lanes.long))) (hw.each k (omega (arith, lanes.long))))
 
 -- a list that its lanes begin with
-pub front_is : (c lanes front : List Symbol) (n : ℕ) → length c ≡ n → n ≤ 32 → InLanes c lanes → StartsAs n lanes front
-    → c ≡ front
+pub front_is : (c lanes front : List Symbol) (n : ℕ) → length c ≡ n → n ≤ 32 → InLanes c lanes → StartsAs n lanes front → c ≡ front
 front_is c lanes front n long small h starts =
     ext_get_or zero_symbol c front (long ∙ sym starts.long) (λ k less.
     sym (starts.each k (omega arith) ∙ h.each k (omega arith)))
@@ -106,21 +104,25 @@ zeros_hold lanes z c e ez h = record {
   each = λ k less. splat_at lanes z k e less ∙ ez ∙ sym (h k);
 }
 
+turned_at : (c : List Symbol) (d : Symbol) (A F : List Symbol) (k : ℕ) → get_or F k zero_symbol ≡ d
+    → get_or A k zero_symbol ≡ get_or c k zero_symbol
+    → product_of (get_or A k zero_symbol) (get_or F k zero_symbol) ≡ product_of d (get_or c k zero_symbol)
+turned_at c d A F k e h = ap₂ product_of h e ∙ laws.mul_comm (get_or c k zero_symbol) d
+
 -- a multiple, and the sum with a multiple
-pub multiple_lanes : (c A F Q : List Symbol) (d : Symbol) → InLanes c A → F ≡ replicate 32 d → EachLane product_of F A Q
-    → InLanes (multiple d c) Q
+pub multiple_lanes : (c A F Q : List Symbol) (d : Symbol) → InLanes c A → F ≡ replicate 32 d → EachLane product_of A F Q → InLanes (multiple d c) Q
 multiple_lanes c A F Q d h e lanes = record {
   long = lanes.long;
-  each = λ k less. lanes.each k less ∙ ap₂ product_of (splat_at F d k e less) (h.each k less) ∙ sym (multiple_at d c k);
+  each = λ k less. lanes.each k less ∙ turned_at c d A F k (splat_at F d k e less) (h.each k less) ∙ sym (multiple_at d c k);
 }
 
 pub mended_lanes : (c b A B F Q S : List Symbol) (d : Symbol) → InLanes c A → InLanes b B → F ≡ replicate 32 d
-    → EachLane product_of F B Q → EachLane sum_of A Q S → InLanes (mended c d b) S
+    → EachLane product_of B F Q → EachLane sum_of A Q S → InLanes (mended c d b) S
 mended_lanes c b A B F Q S d ha hb e products sums = record {
   long = sums.long;
   each = λ k less. sums.each k less
       ∙ ap₂ sum_of (ha.each k less)
-      (products.each k less ∙ ap₂ product_of (splat_at F d k e less) (hb.each k less))
+      (products.each k less ∙ turned_at b d B F k (splat_at F d k e less) (hb.each k less))
       ∙ sym (mended_at c b d k);
 }
 
@@ -133,8 +135,7 @@ pub record Progress (symbols : List Symbol) (n : ℕ) (A B W : List Symbol) (k :
   pub other_lanes : InLanes other B
   pub latest_lanes : AreLatest symbols n W
 
-pub progress_first : (s A Z : List Symbol) (x z : Symbol) → StartsAs 32 (x ∷ Z) A → x ≡ one_symbol → Z ≡ replicate 32 z
-    → z ≡ zero_symbol → Progress s 0 A Z Z 0
+pub progress_first : (s A Z : List Symbol) (x z : Symbol) → StartsAs 32 (x ∷ Z) A → x ≡ one_symbol → Z ≡ replicate 32 z → z ≡ zero_symbol → Progress s 0 A Z Z 0
 progress_first s A Z x z ea ex ez e = record {
   here = one_symbol ∷ [];
   other = zero_symbol ∷ zero_symbol ∷ [];
@@ -153,8 +154,7 @@ pub length_here : (s here other : List Symbol) (n k : ℕ) → Holds s n here ot
 length_here s here other n k h = let e : length here ≡ suc (length (rest gf here)) = ap length h.begins in
     omega (arith, h.state.long)
 
-pub progress_last : (s A B W front : List Symbol) (n k : ℕ) → n ≡ length s → n ≤ 30 → Progress s n A B W k
-    → StartsAs (k + 1) A front → IsRecurrence s k front
+pub progress_last : (s A B W front : List Symbol) (n k : ℕ) → n ≡ length s → n ≤ 30 → Progress s n A B W k → StartsAs (k + 1) A front → IsRecurrence s k front
 progress_last s A B W front n k all small h starts =
     let state = h.holds.state in
     let short = state.short in

@@ -60,8 +60,7 @@ inverse_powers_are i less =
 unfoldable pub roots_from : List Symbol → ℕ → ℕ → List ℕ
 roots_from c i m = filter (is_root c) (range_with_len i m)
 
-pub found_first : (c : List Symbol) (found : List ℕ) (n : ℕ) → found ≡ []
-    → take 16 (found ++ roots_from c 0 (n - 0)) ≡ take 16 (roots_below n c)
+pub found_first : (c : List Symbol) (found : List ℕ) (n : ℕ) → found ≡ [] → take 16 (found ++ roots_from c 0 (n - 0)) ≡ take 16 (roots_below n c)
 unfolding roots_from roots_below
 found_first c found n e = let all : n - 0 ≡ n = omega arith in
     ap (λ l. take 16 (l ++ filter (is_root c) (range_with_len 0 (n - 0)))) e
@@ -97,8 +96,7 @@ take_enough (x ∷ xs) more (suc n) le = ap (λ l. x ∷ l) (take_enough xs more
 
 pub found_enough : (c : List Symbol) (found all : List ℕ) (n i : ℕ) → 16 ≤ length found
     → take 16 (found ++ roots_from c i (n - i)) ≡ all → take 16 (found ++ roots_from c (i + 1) (n - (i + 1))) ≡ all
-found_enough c found all n i le h =
-    take_enough found (roots_from c (i + 1) (n - (i + 1))) 16 le ∙ sym (take_enough found (roots_from c i (n - i)) 16 le) ∙ h
+found_enough c found all n i le h = take_enough found (roots_from c (i + 1) (n - (i + 1))) 16 le ∙ sym (take_enough found (roots_from c i (n - i)) 16 le) ∙ h
 
 -- past the end there is none
 pub found_past : (c : List Symbol) (found all : List ℕ) (n i : ℕ) → n ≤ i
@@ -118,8 +116,7 @@ found_other c found all n i e h = elim (cases_lt i n) [
   | inr past ↦ found_past c found all n i past h
 ]
 
-pub found_last : (c : List Symbol) (found all : List ℕ) (n i : ℕ) → n ≤ i → length found ≤ 16
-    → take 16 (found ++ roots_from c i (n - i)) ≡ all → found ≡ all
+pub found_last : (c : List Symbol) (found all : List ℕ) (n i : ℕ) → n ≤ i → length found ≤ 16 → take 16 (found ++ roots_from c i (n - i)) ≡ all → found ≡ all
 unfolding roots_from
 found_last c found all n i le few h =
     let none : n - i ≡ 0 = omega arith in

@@ -37,9 +37,9 @@ pub fn shortest_recurrence_of(sequence: &[Gf]) -> Recurrence
         latest = behind(sequence[n], latest);
         let discrepancy = sum(mul(here, latest));
         if !discrepancy.is_zero() {
-            let next = add(here, mul(Gf32::new([discrepancy; 32]), other));
+            let next = add(here, mul(other, Gf32::new([discrepancy; 32])));
             if 2 * length <= n {
-                other = mul(Gf32::new([discrepancy.inverse(); 32]), here);
+                other = mul(here, Gf32::new([discrepancy.inverse(); 32]));
                 length = n + 1 - length;
             }
             here = next;

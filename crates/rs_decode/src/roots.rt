@@ -1,31 +1,65 @@
 //! The places of the errors: those whose power of alpha has its inverse among the locator's roots.
-ghost use Rattle.std.specs.Prelude.{◌≡◌, ℕ, ◌+◌, ◌<◌, ◌≤◌, take, slice_index_or};
+ghost use Rattle.std.specs.Prelude.{◌≡◌, ℕ, ◌*◌, ◌<◌, ◌≤◌, length, take, slice_index_or};
 ghost use Rattle.gf1024.specs.Symbol.{gf, zero_symbol};
 ghost use Rattle.field_base.specs.Poly.{value};
 ghost use Rattle.rs_decode.specs.Recurrence.{StartsAs};
-ghost use Rattle.rs_decode.specs.Repair.{back_power, roots_below};
+ghost use Rattle.rs_decode.specs.Repair.{place, back_power, roots_below};
 
 use arrayvec::ArrayVec;
-use gf_lanes::{Gf32, horner};
+use gf_lanes::{Gf32, add, horner, mul};
 use gf1024::{Gf, Poly};
+use rs_code::by_powers;
 
 /// The places of a word of `count` symbols at which the locator has a root, of which it takes the
 /// first sixteen.
 pub fn root_places(locator: &Poly, count: usize) -> ArrayVec<usize, 16>
-    requires { count ≤ 544 }
+    requires some { 1 ≤ length locator.now }
+    requires few { length locator.now ≤ 16 }
+    requires inside { count ≤ 544 }
     ensures { result.items ≡ take 16 (roots_below count locator.now) }
 {
     let mut places = ArrayVec::new();
+    let step = inverse_powers_of(32);
+    let mut scaled = mul(inverse_powers_of(31), lanes_of(locator));
     for row in 0..17usize {
-        let values = values_at(locator, powers_back(32 * row));
+        let values = values_in_row(scaled, locator.len());
         for k in 0..32usize {
             let place = 32 * row + k;
-            if values.lane(k).is_zero() && place < count && places.len() < 16 {
+            if values.lane(31 - k).is_zero() && place < count && places.len() < 16 {
                 places.push(place);
             }
         }
+        scaled = mul(step, scaled);
     }
     places
+}
+
+// The values of the polynomial of the first lanes at `alpha^k` in each lane `k`. Where the locator's
+// coefficients were taken times the powers of `alpha^-(place + 31)`, these are its own at the places
+// from there on, the last lane's first.
+#[inline(always)]
+fn values_in_row(coefficients: Gf32, count: usize) -> Gf32
+    requires some { 1 ≤ count }
+    requires few { count ≤ 16 }
+    ensures { (k : ℕ) → k < 32 → slice_index_or result k zero_symbol ≡ value gf (take count coefficients) (place k) }
+{
+    let mut values = Gf32::new([coefficients.lane(0); 32]);
+    for j in 1..count {
+        values = add(values, by_powers(coefficients.lane(j), j));
+    }
+    values
+}
+
+// The first powers of `alpha^-i`, one a lane.
+fn inverse_powers_of(i: usize) -> Gf32
+    requires { i ≤ 32 }
+    ensures { (j : ℕ) → j < 16 → slice_index_or result j zero_symbol ≡ back_power (i * j) }
+{
+    let mut list = [Gf::low(0); 32];
+    for j in 0..16usize {
+        list[j] = inverse_power(i * j);
+    }
+    Gf32::new(list)
 }
 
 /// The values of the polynomial at the points, lane by lane.
@@ -50,19 +84,6 @@ pub fn lanes_of(poly: &Poly) -> Gf32
     let mut list = [Gf::low(0); 32];
     for k in 0..32usize {
         list[k] = poly.at(k);
-    }
-    Gf32::new(list)
-}
-
-// alpha^-i for thirty-two places from one on, one a lane.
-#[inline(always)]
-fn powers_back(start: usize) -> Gf32
-    requires { start + 32 ≤ 544 }
-    ensures { (k : ℕ) → k < 32 → slice_index_or result k zero_symbol ≡ back_power (start + k) }
-{
-    let mut list = [Gf::low(0); 32];
-    for k in 0..32usize {
-        list[k] = inverse_power(start + k);
     }
     Gf32::new(list)
 }

@@ -1,9 +1,6 @@
 use Rattle.std.proofs.Common.{map, ap, ◌∙◌}
 use Rattle.gf1024.specs.Symbol.{symbol, sum_of}
-use Rattle.rs_code.specs.declared.rows.x30.TheConstants.{X30}
-use Rattle.rs_code.specs.declared.rows.x31.TheConstants.{X31}
-use Rattle.rs_code.specs.declared.rows.x32.TheConstants.{X32}
-use Rattle.rs_code.specs.declared.rows.x33.TheConstants.{X33}
+use Rattle.rs_code.specs.declared.rows.remainders.TheConstants.{X30, X31, X32, X33}
 use Rattle.rs_code.specs.Register.{first_row}
 use Rattle.rs_code.proofs.Four.{four_more_is}
 use Rattle.rs_code.proofs.Tables.{rows_30, rows_31, rows_32, rows_33, base_30, base_31, base_32, base_33}
