@@ -4,7 +4,7 @@ use Rattle.pcs_io.specs.Grammars.{Begins}
 use Rattle.pcs_io.specs.Beats.{beat_at, BeatParserState}
 use Rattle.pcs_io.specs.Histories.{ReaderState}
 use Rattle.pcs_io.specs.Histories as lines
-use Rattle.pcs_io.specs.Captures.{FrontAt, header_at, levels_header_at, OpensBy, OpensWholeBy, Course, Going, Ended, History, BeatsState, Stands, StandsAt, IsHeaderBy, course_of, Tells, TellsBy, IsNearerEnd, Passes, PassesBy, beat_of, ReadsBeat}
+use Rattle.pcs_io.specs.Captures.{FrontAt, header_at, levels_header_at, OpensBy, OpensWholeBy, Course, Going, Ended, History, BeatsState, Stands, StandsAt, IsHeaderBy, course_of, Tells, TellsBy, Passes, PassesBy, beat_of, ReadsBeat}
 use Rattle.pcs_io.specs.declared.fault.InFault.{InFault}
 use Rattle.pcs_io.specs.declared.fault.InFault.TheVariants as fault
 use Rattle.pcs_io.specs.declared.header.Header.{Header}

@@ -2,7 +2,7 @@
 use Rattle.std.proofs.Common.{◌≡◌, ℕ, ◌≤◌, List, None, take, replicate, refl, ap, Ok}
 use Rattle.std.specs.Prelude.{bytes_eq, codes, slice_range, slice_index, ◌&&◌, Bool, true, nat_le}
 use Rattle.std.proofs.lemmas.Bool.{le-leb, eq-eqb}
-use Rattle.pcs_io.specs.Headers.{header_of, header2_of, header_or, period_of, period2_of, skew2_of, most_skew, first_wrong, fields, fields2}
+use Rattle.pcs_io.specs.Headers.{header2_of, header_or, period2_of, skew2_of, most_skew, first_wrong, fields2}
 
 both : (a b : Bool) → a ≡ true → b ≡ true → (a && b) ≡ true
 both a b s t = rw (s, t) refl
