@@ -36,8 +36,7 @@ differing-most rows sent u n =
 
 pub differing-yes : (rows sent : Rows) (u k : ℕ) → differ rows sent u k ≡ true → differing rows sent u (k + 1) ≡ differing rows sent u k + 1
 unfolding differing
-differing-yes rows sent u k e =
-    count-next (differ rows sent u) k ∙ ap (λ b. count_by (differ rows sent u) (range_with_len 0 k) + cond b 1 0) e
+differing-yes rows sent u k e = count-next (differ rows sent u) k ∙ ap (λ b. count_by (differ rows sent u) (range_with_len 0 k) + cond b 1 0) e
 
 pub differing-no : (rows sent : Rows) (u k : ℕ) → differ rows sent u k ≡ false → differing rows sent u (k + 1) ≡ differing rows sent u k
 unfolding differing

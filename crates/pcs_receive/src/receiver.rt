@@ -1,5 +1,5 @@
 // The receiver of a capture.
-ghost use Rattle.std.specs.Prelude.{[], false, ◌||◌, ◌==◌, nat_lt, ◌≡◌, ℕ, ◌+◌, ◌*◌, ◌<◌, ◌≤◌, ◌^◌, ◌↔◌, List, Some, None, IfOk, IsSome, IfNone, IsTrue, drop, length, true, if◌then◌else◌, vec_capacity, vec_len};
+ghost use Rattle.std.specs.Prelude.{[], false, ◌||◌, ◌==◌, nat_lt, ◌≡◌, ℕ, ◌+◌, ◌*◌, ◌<◌, ◌≤◌, ◌^◌, ◌↔◌, List, Some, None, IfOk, IsSome, IfSome, IfNone, IsTrue, drop, length, true, if◌then◌else◌, vec_capacity, vec_len};
 ghost use Rattle.mac_columns.specs.declared.column.Column.{Column as ColumnValue};
 ghost use Rattle.mac_columns.specs.Gathering.{Stands as GatherStands, HasFrame as GatherHasFrame};
 ghost use Rattle.lane_deskew.specs.Bound.{bound};
@@ -210,6 +210,30 @@ impl Receiver {
         ensures none { IsTrue result → (h : Hearing) → Stands self.now h → Answers None (next_event h) }
     {
         is_nothing(&self.lead) && is_past(self.given, &self.columns) && self.lost.is_none()
+    }
+
+    /// The next column, where the next event is one to be told, and otherwise `None`. It takes less time
+    /// than `next`.
+    #[inline(always)]
+    pub fn next_column(&mut self) -> Option<Column>
+        ensures answer { IfSome result (λ column. (h : Hearing) → Stands self.old h → Answers (Some (Event.Column column)) (next_event h)) }
+        ensures some { IsSome result → (h : Hearing) → Stands self.old h → Stands self.new (with_event h) }
+        ensures none { IfNone result (self.new ≡ self.old) }
+        ensures fewer { IsSome result → left_count self.new < left_count self.old }
+        ensures same { self.new.aligner ≡ self.old.aligner }
+    {
+        if !is_nothing(&self.lead) || is_past(self.given, &self.columns) {
+            return None;
+        }
+        match self.want {
+            Want::Columns => {
+                self.framed = false;
+                let column = self.columns[self.given];
+                self.given += 1;
+                Some(column)
+            }
+            Want::Frames => None,
+        }
     }
 
     #[inline(never)]

@@ -109,8 +109,7 @@ bits_of_lane beats l = all_bits 8 (map (λ beat. get_or beat l 0) beats)
 
 length-bits_of_lane : (beats : List (List ℕ)) (l : ℕ) → length (bits_of_lane beats l) ≡ 8 * length beats
 unfolding bits_of_lane
-length-bits_of_lane beats l =
-    length-all_bits 8 (map (λ beat. get_or beat l 0) beats) ∙ omega (arith, length-map beats (λ (beat : List ℕ). get_or beat l 0))
+length-bits_of_lane beats l = length-all_bits 8 (map (λ beat. get_or beat l 0) beats) ∙ omega (arith, length-map beats (λ (beat : List ℕ). get_or beat l 0))
 
 at-bits_of_lane : (beats : List (List ℕ)) (l n : ℕ) → n < 8 * length beats → get_or (bits_of_lane beats l) n 0 ≡ lane_bit beats l n
 unfolding bits_of_lane

@@ -29,8 +29,7 @@ capture f p cs = capture_octets f p (carried p cs)
 pub capture-is : (f : ℕ) (p : ℕ) (cs : List Column) (t : ℕ) → columns_before p t ≤ length cs → length cs < columns_before p (t + 1)
     → capture f p cs ≡ form_header f p ++ pairs_octets p cs t
 unfolding capture_octets
-capture-is f p cs t from low =
-    ap (λ o. form_header f p ++ o) (carried_octets p cs ∙ ap (pairs_octets p cs) (whole_pairs-is p (length cs) t from low))
+capture-is f p cs t from low = ap (λ o. form_header f p ++ o) (carried_octets p cs ∙ ap (pairs_octets p cs) (whole_pairs-is p (length cs) t from low))
 
 -- columns that fill no pair
 pub capture-same : (f : ℕ) (p : ℕ) (cs more : List Column) (t : ℕ) → columns_before p t ≤ length cs → length (cs ++ more) < columns_before p (t + 1)
@@ -110,8 +109,7 @@ pub idles-append : (m n : ℕ) → idles m ++ idles n ≡ idles (m + n)
 idles-append zero n = let same : 0 + n ≡ n = omega arith in ap idles (sym same)
 idles-append (suc m) n = let next : suc m + n ≡ suc (m + n) = omega arith in ap (λ cs. Idle ∷ cs) (idles-append m n) ∙ ap idles (sym next)
 
-pub length-with_pairs : (p : ℕ) (cs : List Column) (n : ℕ) → AreWhole p cs
-    → length (with_pairs p cs n) ≡ columns_before p (whole_pairs p (length cs) + n)
+pub length-with_pairs : (p : ℕ) (cs : List Column) (n : ℕ) → AreWhole p cs → length (with_pairs p cs n) ≡ columns_before p (whole_pairs p (length cs) + n)
 length-with_pairs p cs n whole =
     let t = whole_pairs p (length cs) in
     length-append cs (idles (columns_before p (t + n) - length cs)) ∙ ap (λ k. length cs + k) (length-replicate (columns_before p (t + n) - length cs) Idle)
@@ -185,8 +183,7 @@ module _ (old : State) (f : ℕ) (p : ℕ) (cs : List Column) (owed : ℕ) (star
           (failed filled filled-stands start (capture f p cs) o.wrote)
 
 -- more pairs of idles go on with the first ones
-with_pairs-front : (p : ℕ) (cs : List Column) (m n : ℕ) → AreWhole p cs → m ≤ n
-    → (more : List Column) × (with_pairs p cs n ≡ with_pairs p cs m ++ more)
+with_pairs-front : (p : ℕ) (cs : List Column) (m n : ℕ) → AreWhole p cs → m ≤ n → (more : List Column) × (with_pairs p cs n ≡ with_pairs p cs m ++ more)
 with_pairs-front p cs m n whole few =
     let t = whole_pairs p (length cs) in
     let a = columns_before p (t + m) - length cs in

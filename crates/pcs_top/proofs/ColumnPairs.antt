@@ -33,8 +33,7 @@ use Rattle.pcs_top.proofs.ColumnText.{calls-append}
 
 -- ---- pairs of calls
 pairs-append : (m n : ℕ) (more before : List Call) → ArePairs m more → ArePairs n before → ArePairs (m + n) (more ++ before)
-pairs-append zero n more before none they =
-    subst (λ h. ArePairs (0 + n) (h ++ before)) (sym none) (subst (λ k. ArePairs k before) (omega arith) they)
+pairs-append zero n more before none they = subst (λ h. ArePairs (0 + n) (h ++ before)) (sym none) (subst (λ k. ArePairs k before) (omega arith) they)
 pairs-append (suc m) n more before (pair, rest, one, others, is) they =
     let count : suc (m + n) ≡ suc m + n = omega arith in
     subst (λ k. ArePairs k (more ++ before)) count (
@@ -89,8 +88,7 @@ reverse-taken (c ∷ cs) =
 -- one pair of calls, and one report
 one-of : (es : List Event) (pair : List Call) → length (reports_of es) ≡ 1 → calls_of es ≡ pair → IsPair pair → HasPairs es
 unfolding HasPairs
-one-of es pair count calls one =
-    subst (λ n. ArePairs n (calls_of es)) (sym count) (pair, [], one, refl, calls ∙ sym (append-nil pair))
+one-of es pair count calls one = subst (λ n. ArePairs n (calls_of es)) (sym count) (pair, [], one, refl, calls ∙ sym (append-nil pair))
 
 pair-events : (r : Report) (cs : List Column) (begins : Bool) → length cs ≡ (if begins then 128 else 160)
     → HasPairs (report r ∷ ((if begins then group ∷ [] else []) ++ map column cs))
@@ -106,8 +104,7 @@ pair-events r cs false size =
 
 one-pair : (p : ℕ) (pairs : List Rows) (i : ℕ) → HasPairs (column_events_of_pair p pairs i)
 unfolding column_events_of_pair
-one-pair p pairs i =
-    pair-events (report_of i (pair_at pairs i)) (columns_of_pair p pairs i) (i % p == 0) (pairs_have_all_columns p pairs i)
+one-pair p pairs i = pair-events (report_of i (pair_at pairs i)) (columns_of_pair p pairs i) (i % p == 0) (pairs_have_all_columns p pairs i)
 
 first-pairs : (p : ℕ) (pairs : List Rows) (n : ℕ) → HasPairs (joined n (column_events_of_pair p pairs))
 first-pairs p pairs zero = subst HasPairs (sym (joined-none (column_events_of_pair p pairs))) none
@@ -137,8 +134,7 @@ one-hunt c (aligned o) =
 
 all-hunts : (c : Capture) (found : List Alignment) → HasPairs (flat_map (hunt_events column_events_of_pair c) found)
 all-hunts c [] = none
-all-hunts c (a ∷ found) =
-    both (hunt_events column_events_of_pair c a) (flat_map (hunt_events column_events_of_pair c) found) (one-hunt c a) (all-hunts c found)
+all-hunts c (a ∷ found) = both (hunt_events column_events_of_pair c a) (flat_map (hunt_events column_events_of_pair c) found) (one-hunt c a) (all-hunts c found)
 
 -- ---- the lines
 length-block_line : (block : Block) → length (block_line block) ≡ 20

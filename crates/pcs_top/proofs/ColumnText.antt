@@ -140,8 +140,7 @@ module _ {T : Type 0} (owed : T → ℕ) where
 
       line : (text : EventText) (es : List Event) (start : Option (List ℕ)) → HasTold TellsColumns old text es start held pending
           → column_lines es ++ column_text (c ∷ replicate idles Idle) ≡ column_lines (es ++ e ∷ [])
-      line text es start t =
-          ap (λ n. column_lines es ++ column_text (c ∷ replicate n Idle)) (answers (calls_of es) t.keeps.1) ∙ sym (one-column es e c call)
+      line text es start t = ap (λ n. column_lines es ++ column_text (c ∷ replicate n Idle)) (answers (calls_of es) t.keeps.1) ∙ sym (one-column es e c call)
 
       pub tells-column : (held_now : Option (List ℕ)) (pending_now : List ℕ)
           → ((h : List Call) → RefillStands (owed old) h → RefillStands (owed new) (taken c ∷ h))
@@ -180,8 +179,7 @@ text-grows period skew beats more = listening-grows told_columns true period ske
 
 pub columns-none : (period skew : ℕ) (x : State) (start : Option (List ℕ)) (pending : List ℕ)
     → HasBegun x period skew true → pending ≡ [] → Wrote start start ((columns_text period skew).so_far []) pending
-columns-none period skew x start pending b empty =
-    wrote-none start _ pending (ap column_lines (no-events true x period skew b) ∙ no-lines) empty
+columns-none period skew x start pending b empty = wrote-none start _ pending (ap column_lines (no-events true x period skew b) ∙ no-lines) empty
 
 -- ---- idles put one by one
 abbrev pub idle_lines : ℕ → List ℕ

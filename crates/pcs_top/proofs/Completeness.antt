@@ -290,8 +290,7 @@ with-memory Table input decide one other first second g h (inl a) (inr none) s t
 module _ (watchers : List Watched) (input : List ℕ) (one other : Seen) (first second : Status) (short : length input ≤ 2 ^ 40)
     (g : Given one input) (h : Given other input) (s : IsSettledStatus first) (t : IsSettledStatus second) where
   one-outcome : (Table : Seen → Outcome → Type 0) → Decides input Table → ByOutcome (Table one) first → ByOutcome (Table other) second → first ≡ second
-  one-outcome Table decide (x, is, a) (y, so, b) =
-      is ∙ ap status_of (decide one other x y g h a b (by-status x first is s) (by-status y second so t)) ∙ sym so
+  one-outcome Table decide (x, is, a) (y, so, b) = is ∙ ap status_of (decide one other x y g h a b (by-status x first is s) (by-status y second so t)) ∙ sym so
 
   one-of-lines : (Table : Seen → Outcome → Type 0) → Decides input Table → ByOutcome (OrNoMemory Table one) first → ByOutcome (OrNoMemory Table other) second
       → first ≡ second

@@ -40,8 +40,7 @@ pub columns-append : (lines more : List FrameLine) → columns_of_lines (lines +
 unfolding columns_of_lines
 columns-append = flat_map-append columns_of_line
 
-pub one-line : (lines : List FrameLine) (line : FrameLine)
-    → columns_of_lines (lines ++ line ∷ []) ≡ columns_of_lines lines ++ columns_of_line line
+pub one-line : (lines : List FrameLine) (line : FrameLine) → columns_of_lines (lines ++ line ∷ []) ≡ columns_of_lines lines ++ columns_of_line line
 unfolding columns_of_lines
 one-line lines line = columns-append lines (line ∷ []) ∙ ap (λ t. columns_of_lines lines ++ t) (append-nil (columns_of_line line))
 

@@ -1,15 +1,15 @@
 -- Lines of events that are put in parts.
-use Rattle.std.proofs.Common.{◌≡◌, ℕ, ◌+◌, ◌<◌, ◌⊎◌, inl, inr, List, [], ◌∷◌, ◌++◌, take, get_or, length, map, codes, Option, Some, None, refl, sym, ◌∙◌, ap, append_assoc, append-nil, arith}
+use Rattle.std.proofs.Common.{◌≡◌, ℕ, ◌+◌, ◌<◌, ◌⊎◌, inl, inr, List, [], ◌∷◌, ◌++◌, take, get_or, length, codes, Option, Some, None, refl, sym, ◌∙◌, ap, append_assoc, append-nil, arith}
 use Rattle.std.specs.Prelude.{decimal}
 use Rattle.std.specs.List.{flat_map}
-use Rattle.std.proofs.lemmas.List.{take_more, take_all, map-append}
+use Rattle.std.proofs.lemmas.List.{take_more, take_all}
 use Rattle.std.proofs.lemmas.List.Concat.{flat_map-append}
 use Rattle.mac_columns.specs.declared.column.Column.{Column}
 use Rattle.pcs_receive.specs.Events.{Event}
 use Rattle.pcs_receive.specs.declared.event.Event.TheVariants as answer
 use Rattle.pcs_receive.specs.declared.event.Event.{Event as Answer}
 use Rattle.pcs_receive.specs.Hearings.{IsAnswer}
-use Rattle.pcs_top.specs.Reporting.{alignment_line, commas, drop_line, event_line, failure_line, lane_digit, number_line, report_line}
+use Rattle.pcs_top.specs.Reporting.{alignment_line, commas, drop_line, event_line, failure_line, number_line, report_line}
 
 -- each number with a comma behind it
 unfoldable pub with_commas : List ℕ → List ℕ

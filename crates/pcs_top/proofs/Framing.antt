@@ -35,8 +35,7 @@ capture-none f p =
 
 -- whole periods of idles
 pub whole-periods : (p : ℕ) (cs : List Column) (k : ℕ) → 1 ≤ p → AreWhole p cs → with_pairs p cs (k * p) ≡ cs ++ idles (k * room p)
-whole-periods p cs k least whole =
-    ap (λ n. cs ++ idles n) (omega (arith, whole, columns-periods p (whole_pairs p (length cs)) k least))
+whole-periods p cs k least whole = ap (λ n. cs ++ idles n) (omega (arith, whole, columns-periods p (whole_pairs p (length cs)) k least))
 
 -- the lead is what was begun before any column
 pub lead-is : (o : EncodeOptions) → 1 ≤ o.period → with_pairs o.period [] (o.lead * o.period) ≡ begun_columns o.period o.lead []
@@ -136,8 +135,7 @@ module _ (s : State) (o : EncodeOptions) (cs : List Column) (start held : Option
   taken-is = whole_pairs-is o.period (length columns) h.taken put.sent.from put.sent.low
 
   begun-test : is_begun h ≡ (nat_lt (columns_before o.period h.taken) (length columns) && nat_lt (length columns) (columns_before o.period (h.taken + 1)))
-  begun-test =
-      ap₂ (λ n q. nat_lt (columns_before q h.taken) n && nat_lt n (columns_before q (h.taken + 1))) (ap length put.sent.placed) put.sent.period
+  begun-test = ap₂ (λ n q. nat_lt (columns_before q h.taken) n && nat_lt n (columns_before q (h.taken + 1))) (ap length put.sent.placed) put.sent.period
 
   pub is-begun : is_begun h ≡ true → columns_before o.period (whole_pairs o.period (length columns)) < length columns
   is-begun is = elim (cases_lt (columns_before o.period h.taken) (length columns)) [

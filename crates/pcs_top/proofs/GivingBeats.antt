@@ -131,8 +131,7 @@ module _ (text : BeatsText) (header : Header) (beats : List (List ℕ)) (start h
 
   module _ (impairer : State) (k : IsImpairing impairer text beats) (wrote : Wrote start held (text.so_far beats) pending) where
     is-given : text.so_far beats ≡ given_text (header_octets_of k.header) (calls k.items beats k.given)
-    is-given =
-        ap (λ (t : BeatsText). t.so_far beats) k.is ∙ sym (given-ready k.items k.each k.header beats k.given k.come k.last)
+    is-given = ap (λ (t : BeatsText). t.so_far beats) k.is ∙ sym (given-ready k.items k.each k.header beats k.given k.come k.last)
 
     -- one more beat is taken
     pub takes-one : (new : State) (beat : List ℕ) → ((h : Impairing) → Stands impairer h → Stands new (after_take h beat))

@@ -108,8 +108,7 @@ unfolding good
 good-is-told period skew = refl
 
 no-good : (period skew : ℕ) (x : State) → HasBegun x period skew false → (good_text period skew).so_far [] ≡ []
-no-good period skew x b =
-    ap (λ (t : BeatsText). t.so_far []) (good-is-told period skew) ∙ ap told_frames.so_far (no-events false x period skew b) ∙ no-frames
+no-good period skew x b = ap (λ (t : BeatsText). t.so_far []) (good-is-told period skew) ∙ ap told_frames.so_far (no-events false x period skew b) ∙ no-frames
 
 -- a receiver that was just opened
 pub good-start : {T : Type 0} (teller : T) (x : State) (period skew : ℕ) (start : Option (List ℕ)) → HasBegun x period skew false

@@ -96,8 +96,7 @@ module _ (items : List Item) (each : All IsItem items) where
   -- they stay as they are when a beat comes
   pub same-later : (beats : List (List ℕ)) (beat : List ℕ) (n : ℕ) → AllReady items beats n
       → joined n (damaged items (beats ++ beat ∷ [])) ≡ joined n (damaged items beats)
-  same-later beats beat n ready =
-      joined-same (damaged items (beats ++ beat ∷ [])) (damaged items beats) n (λ k low. (keeps beats beat).same k (ready k low))
+  same-later beats beat n ready = joined-same (damaged items (beats ++ beat ∷ [])) (damaged items beats) n (λ k low. (keeps beats beat).same k (ready k low))
 
   pub ready-later : (beats : List (List ℕ)) (beat : List ℕ) (n : ℕ) → AllReady items beats n → AllReady items (beats ++ beat ∷ []) n
   ready-later beats beat n ready b low = (keeps beats beat).ready b (ready b low)

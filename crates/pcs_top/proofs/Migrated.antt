@@ -1,9 +1,8 @@
 -- A capture that was migrated is a capture with the same beats.
-use Rattle.std.proofs.Common.{◌≡◌, ℕ, ◌≤◌, List, [], ◌∷◌, ◌++◌, length, refl, sym, ◌∙◌, ap, subst, arith, append-nil}
+use Rattle.std.proofs.Common.{◌≡◌, ℕ, List, [], ◌∷◌, length, refl, ◌∙◌, ap, subst, arith, append-nil}
 use Rattle.std.specs.Prelude.{min}
 use Rattle.std.specs.List.{flat_map}
 use Rattle.pcs_io.specs.Beats.{beat_at}
-use Rattle.pcs_io.specs.Captures.{OpensWhole, Opens}
 use Rattle.pcs_io.specs.Grammars.{Begins}
 use Rattle.pcs_io.specs.Headers.{IsHeader2, IsInRange}
 use Rattle.pcs_io.specs.declared.header.Header.{Header}
@@ -11,8 +10,8 @@ use Rattle.pcs_io.proofs.BeatPieces.{pieces-parts}
 use Rattle.pcs_io.proofs.HeadersBack.{header2-at}
 use Rattle.pcs_receive.specs.Events.{events, column_events}
 use Rattle.pcs_top.specs.EventTexts.{capture}
-use Rattle.pcs_top.specs.Laws.{IsMigrated, CapturesAreMigrated}
-use Rattle.pcs_top.specs.Migrating.{migrated_octets, header_migrated}
+use Rattle.pcs_top.specs.Laws.{CapturesAreMigrated}
+use Rattle.pcs_top.specs.Migrating.{header_migrated}
 use Rattle.pcs_io.proofs.HeaderRanges.{header-ranged}
 
 same-limit : (most skew own : ℕ) → min most (min skew own) ≡ min (min most skew) own

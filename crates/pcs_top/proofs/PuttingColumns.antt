@@ -33,8 +33,7 @@ begun-same : (p lead : ℕ) (cs ds : List Column) → kept p ds ≡ kept p cs �
 unfolding begun_columns
 begun-same p lead cs ds same = ap (λ xs. idles (lead * room p) ++ xs) same
 
-begun-more : (p lead : ℕ) (cs ds : List Column) (c : Column) → kept p ds ≡ kept p cs ++ c ∷ []
-    → begun_columns p lead ds ≡ begun_columns p lead cs ++ c ∷ []
+begun-more : (p lead : ℕ) (cs ds : List Column) (c : Column) → kept p ds ≡ kept p cs ++ c ∷ [] → begun_columns p lead ds ≡ begun_columns p lead cs ++ c ∷ []
 unfolding begun_columns
 begun-more p lead cs ds c more = ap (λ xs. idles (lead * room p) ++ xs) more ∙ sym (append_assoc (idles (lead * room p)) (kept p cs) (c ∷ []))
 
@@ -162,8 +161,7 @@ module _ (s : State) (o : EncodeOptions) (cs : List Column) (start held : Option
   -- the answer of `put`, by its tests
   data Case : Type 0 where
     goes : leaves h.debt c ≡ true → (put_answer h c ≡ Ok More) → (after_put h c ≡ record h { debt = h.debt - 1 }) → Case
-    stays : leaves h.debt c ≡ false → debt p (c ∷ reverse cs) ≤ 128 → (put_answer h c ≡ Ok (placed_answer kept_one))
-        → (after_put h c ≡ kept_one) → Case
+    stays : leaves h.debt c ≡ false → debt p (c ∷ reverse cs) ≤ 128 → (put_answer h c ≡ Ok (placed_answer kept_one)) → (after_put h c ≡ kept_one) → Case
     refused : 128 < debt p (c ∷ reverse cs) → (put_answer h c ≡ Err (record {})) → Case
 
   owed-with : (begins : Bool) → leaves h.debt c ≡ false → begins_group h ≡ begins → debt p (c ∷ reverse cs) ≡ h.debt + cond begins 32 0

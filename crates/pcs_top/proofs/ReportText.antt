@@ -121,8 +121,7 @@ reports-grow first period skew beats more = listening-grows (told_report first) 
 
 pub report-none : (first : List Watched) (period skew : ℕ) (x : State) (start : Option (List ℕ)) (pending : List ℕ)
     → HasBegun x period skew false → pending ≡ [] → Wrote start start ((report_text first period skew).so_far []) pending
-report-none first period skew x start pending b empty =
-    wrote-none start _ pending (ap event_lines (no-events false x period skew b) ∙ no-lines) empty
+report-none first period skew x start pending b empty = wrote-none start _ pending (ap event_lines (no-events false x period skew b) ∙ no-lines) empty
 
 -- an answer other than a report changes no watchers
 pub other-told : (a : Answer) (e : Event) (ws : List Watched) → ((r : Report) → a ≢ answer.Report r) → IsAnswer a e → ws ≡ told_event e ws

@@ -36,8 +36,7 @@ unfolding numbers_text
 numbers-append xs ys = flat_map-append (λ n. codes " " ++ decimal n) xs ys
 
 -- one number more
-numbers-more : (xs : List ℕ) (i x : ℕ) → Some x ≡ slice_get xs i
-    → numbers_text (take (i + 1) xs) ≡ numbers_text (take i xs) ++ (32 ∷ decimal x)
+numbers-more : (xs : List ℕ) (i x : ℕ) → Some x ≡ slice_get xs i → numbers_text (take (i + 1) xs) ≡ numbers_text (take i xs) ++ (32 ∷ decimal x)
 unfolding numbers_text
 numbers-more xs i x e =
     ap (λ k. numbers_text (take k xs)) (add-one i) ∙ ap numbers_text (at-some xs i x e) ∙ numbers-append (take i xs) (x ∷ [])
@@ -80,8 +79,7 @@ module _ (h₀ h₁ h₂ h₃ h₄ : Option (List ℕ)) (p₀ p₁ p₂ p₃ p�
       breaks-more h₀ h₄ p₀ (word ++ name ++ numbers) end
       (breaks-more h₀ h₄ p₀ (word ++ name) numbers (breaks-later h₀ h₁ h₄ p₀ p₁ word name a failed))
 
-  pub line-breaks-numbers : Puts h₀ p₀ word h₁ p₁ → Puts h₁ p₁ name h₂ p₂ → BreaksOff h₂ p₂ numbers h₄
-      → BreaksOff h₀ p₀ (word ++ name ++ numbers ++ end) h₄
+  pub line-breaks-numbers : Puts h₀ p₀ word h₁ p₁ → Puts h₁ p₁ name h₂ p₂ → BreaksOff h₂ p₂ numbers h₄ → BreaksOff h₀ p₀ (word ++ name ++ numbers ++ end) h₄
   line-breaks-numbers a b failed =
       breaks-more h₀ h₄ p₀ (word ++ name ++ numbers) end
       (breaks-later h₀ h₂ h₄ p₀ p₂ (word ++ name) numbers (puts-both h₀ h₁ h₂ p₀ p₁ p₂ word name a b) failed)

@@ -164,8 +164,7 @@ module _ {T : Type 0} (Keeps : Meaning T) where
           is = t.is;
           stands = stands now t.stands;
           within = omega (arith, slice_get_within es t.count e given.1);
-          aligned_yet =
-              notes e given.2 ∙ ap (λ b. b || is_alignment e) t.aligned_yet ∙ sym (alignment-more (take t.count es) e) ∙ ap has_alignment (sym next);
+          aligned_yet = notes e given.2 ∙ ap (λ b. b || is_alignment e) t.aligned_yet ∙ sym (alignment-more (take t.count es) e) ∙ ap has_alignment (sym next);
           put = subst (λ ts. HasTold Keeps teller_now t.told ts start held_now pending_now) (sym next)
               (put (with_event now) e (stands now t.stands) given.2 is-last t.told (take t.count es) start t.put);
         }

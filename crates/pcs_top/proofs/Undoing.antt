@@ -80,11 +80,9 @@ line-octets (Set gap octets) sent = set-columns-octets octets gap sent.0 sent.1
 
 sent-octets : (lines : List FrameLine) → AllByRecursion IsSent lines → AllByRecursion HasOctets (sent_columns lines)
 sent-octets [] all = tt
-sent-octets (line ∷ lines) all =
-    all-append (columns_of_line line) (sent_columns lines) (line-octets line all.0) (sent-octets lines all.1)
+sent-octets (line ∷ lines) all = all-append (columns_of_line line) (sent_columns lines) (line-octets line all.0) (sent-octets lines all.1)
 
-columns-read : (columns : List Column)
-    → map line_column (map (λ column. written_line (block_of column)) columns) ≡ map column_of (map block_of columns)
+columns-read : (columns : List Column) → map line_column (map (λ column. written_line (block_of column)) columns) ≡ map column_of (map block_of columns)
 columns-read [] = refl
 columns-read (column ∷ columns) = ap (λ cs. column_of (block_of column) ∷ cs) (columns-read columns)
 

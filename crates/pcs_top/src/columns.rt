@@ -74,12 +74,20 @@ impl Teller for ColumnLines {
                 self.refill.group();
                 Ok(())
             }
-            Event::Column(column) => {
-                let idles = self.refill.take(column);
-                put_column(output, sink, column, idles)
-            }
+            Event::Column(column) => self.tell_column(column, receiver, output, sink),
             _ => Ok(()),
         }
+    }
+
+    fn tell_column<W: Sink>(
+        &mut self,
+        column: &Column,
+        receiver: &Receiver,
+        output: &mut Output,
+        sink: &mut W,
+    ) -> Result<(), Failed> {
+        let idles = self.refill.take(column);
+        put_column(output, sink, column, idles)
     }
 
     fn finish<W: Sink>(&mut self, output: &mut Output, sink: &mut W) -> Result<(), Failed> {

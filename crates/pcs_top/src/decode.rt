@@ -13,6 +13,7 @@ ghost use Rattle.pcs_top.specs.Statuses.{ByOutcome};
 use crate::Status;
 use crate::listening::Listening;
 use crate::teller::Teller;
+use mac_columns::Column;
 use pcs_drive::{Output, drive, open_capture};
 use pcs_io::{Beats, Failed, Sink, Source};
 use pcs_receive::{Event, Receiver, Want};
@@ -84,6 +85,16 @@ impl Teller for FrameLines {
             return output.put_hex_line(sink, receiver.frame());
         }
         Ok(())
+    }
+
+    fn tell_column<W: Sink>(
+        &mut self,
+        column: &Column,
+        receiver: &Receiver,
+        output: &mut Output,
+        sink: &mut W,
+    ) -> Result<(), Failed> {
+        self.tell(&Event::Column(*column), receiver, output, sink)
     }
 
     fn finish<W: Sink>(&mut self, output: &mut Output, sink: &mut W) -> Result<(), Failed> {

@@ -58,6 +58,10 @@ impl<T: Teller> Task for Listening<'_, T> {
         while let Some(event) = &self.receiver.next() {
             self.aligned = aligned_after(self.aligned, event);
             self.teller.tell(event, self.receiver, output, sink)?;
+            while let Some(column) = &self.receiver.next_column() {
+                self.teller
+                    .tell_column(column, self.receiver, output, sink)?;
+            }
         }
         Ok(())
     }

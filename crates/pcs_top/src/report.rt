@@ -11,6 +11,7 @@ use crate::event_lines::line_of;
 use crate::listening::Listening;
 use crate::tallies::put_tallies;
 use crate::teller::Teller;
+use mac_columns::Column;
 use pcs_drive::{Outcome, Output, drive, open_capture};
 use pcs_io::{Failed, Sink, Source};
 use pcs_receive::{Event, Receiver, Want};
@@ -71,6 +72,16 @@ impl Teller for ReportLines {
         tell_event(&mut self.watchers, event);
         let line = line_of(event, receiver);
         output.put(sink, line.as_bytes())
+    }
+
+    fn tell_column<W: Sink>(
+        &mut self,
+        column: &Column,
+        receiver: &Receiver,
+        output: &mut Output,
+        sink: &mut W,
+    ) -> Result<(), Failed> {
+        self.tell(&Event::Column(*column), receiver, output, sink)
     }
 
     fn finish<W: Sink>(&mut self, output: &mut Output, sink: &mut W) -> Result<(), Failed> {

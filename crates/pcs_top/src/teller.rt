@@ -6,6 +6,7 @@ ghost use Rattle.pcs_receive.specs.Hearings.{Hearing, IsAnswer, last_event};
 ghost use Rattle.pcs_receive.specs.State.{HasFrame, Stands};
 ghost use Rattle.pcs_top.specs.EventTexts.{EventText, TellsEvent, BreaksAtEvent, EndsEvents, BreaksAfterEvents};
 
+use mac_columns::Column;
 use pcs_drive::Output;
 use pcs_io::{Failed, Sink};
 use pcs_receive::{Event, Receiver};
@@ -32,6 +33,22 @@ pub trait Teller {
             → TellsEvent Keeps self.old self.new told (W.held sink.old) output.old (W.held sink.new) output.new) }
         ensures weight { weight self.new ≤ weight self.old + 32 }
         ensures err { OnErr result ((h : Hearing) (told : EventValue) → Stands receiver.now h → IsAnswer event.now told → last_event h ≡ Some told
+            → BreaksAtEvent Keeps self.old told (W.held sink.old) output.old (W.held sink.new)) }
+        ensures cause { HasCause (W.faults sink.old) (W.faults sink.new) result };
+
+    /// Puts the text of the column that the receiver told last, as `tell` does.
+    fn tell_column<W: Sink>(
+        &mut self,
+        column: &Column,
+        receiver: &Receiver,
+        output: &mut Output,
+        sink: &mut W,
+    ) -> Result<(), Failed>
+        requires room { weight self.old ≤ 2 ^ 53 }
+        ensures ok { OnOk result ((h : Hearing) (told : EventValue) → Stands receiver.now h → IsAnswer (Event.Column column.now) told → last_event h ≡ Some told
+            → TellsEvent Keeps self.old self.new told (W.held sink.old) output.old (W.held sink.new) output.new) }
+        ensures weight { weight self.new ≤ weight self.old + 32 }
+        ensures err { OnErr result ((h : Hearing) (told : EventValue) → Stands receiver.now h → IsAnswer (Event.Column column.now) told → last_event h ≡ Some told
             → BreaksAtEvent Keeps self.old told (W.held sink.old) output.old (W.held sink.new)) }
         ensures cause { HasCause (W.faults sink.old) (W.faults sink.new) result };
 

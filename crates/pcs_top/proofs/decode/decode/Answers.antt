@@ -30,5 +30,4 @@ returns-in-Ok g c =
     (NoMemory, refl, no-memory-opened (decoded c.args.limit) around c.in-Ok.beats c.in-Ok.header c.in-Ok.ensures.ok refl)
 
 pub returns : goal.returns
-returns g c =
-    (c.in-Err.outcome, c.from.ensures, c.in-Err.ensures.err (decoded c.args.limit) (g.W.Sink.held c.args.sink.now) (g.W.Sink.faults c.args.sink.now))
+returns g c = (c.in-Err.outcome, c.from.ensures, c.in-Err.ensures.err (decoded c.args.limit) (g.W.Sink.held c.args.sink.now) (g.W.Sink.faults c.args.sink.now))

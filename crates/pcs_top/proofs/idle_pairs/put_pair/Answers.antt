@@ -8,8 +8,7 @@ returns-clause-ok g c =
     on_ok_weaker c.put.result (λ puts h stands. rw (sym (c.take_pair-pair.ensures.pair h stands), sym c.as_octets.ensures.octets) puts) c.put.ensures.ok
 
 pub returns-clause-err : goal.returns-clause-err
-returns-clause-err g c =
-    on_err_weaker c.put.result (λ breaks h stands start text wrote. front-more start _ text _ (breaks start text wrote)) c.put.ensures.err
+returns-clause-err g c = on_err_weaker c.put.result (λ breaks h stands start text wrote. front-more start _ text _ (breaks start text wrote)) c.put.ensures.err
 
 pub returns-clause-grows : goal.returns-clause-grows
 returns-clause-grows g c = put-lengthens _ _ _ _ _ _ c.put.ensures.ok c.put.ensures.err

@@ -1,7 +1,9 @@
 use Rattle.std.proofs.Common.{[], ◌∷◌, ◌++◌, ap, refl, ◌∙◌, arith}
 use Rattle.std.proofs.lemmas.Result.{err_from_is_err_and}
+use Rattle.pcs_receive.specs.State.{left_count}
 use Rattle.pcs_drive.specs.CaptureCommand.{BeatsText}
-use Rattle.pcs_top.proofs.Telling.{telling-start, telling-next, telling-failed, telling-all, telling-wrote}
+use Rattle.pcs_receive.specs.declared.event.Event.TheVariants as event
+use Rattle.pcs_top.proofs.Telling.{aligned-by, telling-start, telling-next, telling-failed, telling-all, telling-wrote}
 use Rattle.pcs_top.proofs.listening.ListeningTask.take.Goals as goal
 
 pub loop-event-init : goal.loop-event-init
@@ -14,8 +16,8 @@ loop-event-init g c = record {
   later = omega arith;
 }
 
-pub loop-event-preserved : goal.loop-event-preserved
-loop-event-preserved g c =
+pub loop-column-init : goal.loop-column-init
+loop-column-init g c =
     let answer = rw c.in-Some.is at c.next.ensures.answer in
     let some = rw c.in-Some.is at c.next.ensures.some in
     let fewer = rw c.in-Some.is at c.next.ensures.fewer in
@@ -27,7 +29,31 @@ loop-event-preserved g c =
       weight = omega (arith, c.loop-event.invariant.weight, c.tell.ensures.weight, fewer refl, ap (λ a. a.beats) c.next.ensures.same);
       beats = ap (λ a. a.beats) c.next.ensures.same ∙ c.loop-event.invariant.beats;
       later = omega (arith, c.loop-event.invariant.later, c.tell.ensures.cause.later);
+      fewer = omega arith;
     }
+
+pub loop-column-preserved : goal.loop-column-preserved
+loop-column-preserved g c =
+    let column = c.in-Some-next_column.column in
+    let answer = rw c.in-Some-next_column.is at c.next_column.ensures.answer in
+    let some = rw c.in-Some-next_column.is at c.next_column.ensures.some in
+    let fewer = rw c.in-Some-next_column.is at c.next_column.ensures.fewer in
+    record {
+      telling = λ text beats start l wrote.
+          telling-next g.T.Teller.Keeps _ _ _ (event.Column column) _ text (beats ++ c.args.beat ∷ []) start _ _
+          (c.loop-column.invariant.telling text beats start l wrote) answer (some refl) _ _ _ _
+          c.in_ok-tell_column.ensures.ok (λ e is. (aligned-by (event.Column column) e _ is).1 refl);
+      weight = omega (arith, c.loop-column.invariant.weight, c.tell_column.ensures.weight, fewer refl, ap (λ a. a.beats) c.next_column.ensures.same);
+      beats = ap (λ a. a.beats) c.next_column.ensures.same ∙ c.loop-column.invariant.beats;
+      later = omega (arith, c.loop-column.invariant.later, c.tell_column.ensures.cause.later);
+      fewer = omega (arith, c.loop-column.invariant.fewer, fewer refl);
+    }
+
+pub loop-event-smaller : goal.loop-event-smaller
+loop-event-smaller g c =
+    let fewer = rw c.in-Some.is at c.next.ensures.fewer in
+    let none = rw c.in_default-next_column.is at c.next_column.ensures.none in
+    omega (arith, fewer refl, c.loop-column.invariant.fewer, ap left_count none)
 
 pub returns-then-is_drained-clause-ok : goal.returns-then-is_drained-clause-ok
 returns-then-is_drained-clause-ok g c = λ text beats start put.
@@ -49,6 +75,17 @@ returns-in_err-tell-clause-err g c =
     let t = c.loop-event.invariant.telling text beats start put.keeps put.wrote in
     telling-failed g.T.Teller.Keeps _ _ _ c.in-Some.event _ text (beats ++ c.args.beat ∷ []) start _ _ t answer (some refl)
     _ _ (ap (λ (x : BeatsText). x.so_far (beats ++ c.args.beat ∷ [])) t.is) c.in_err-tell.ensures.err)
+
+pub returns-in_err-tell_column-clause-err : goal.returns-in_err-tell_column-clause-err
+returns-in_err-tell_column-clause-err g c =
+    let column = c.in-Some-next_column.column in
+    let exit = err_from_is_err_and c.from_residual-in_err-tell_column.result c.from_residual-in_err-tell_column.ensures.1 in
+    let answer = rw c.in-Some-next_column.is at c.next_column.ensures.answer in
+    let some = rw c.in-Some-next_column.is at c.next_column.ensures.some in
+    rw exit.1 (λ text beats start put.
+    let t = c.loop-column.invariant.telling text beats start put.keeps put.wrote in
+    telling-failed g.T.Teller.Keeps _ _ _ (event.Column column) _ text (beats ++ c.args.beat ∷ []) start _ _ t answer (some refl)
+    _ _ (ap (λ (x : BeatsText). x.so_far (beats ++ c.args.beat ∷ [])) t.is) c.in_err-tell_column.ensures.err)
 
 pub returns-clause-ok : goal.returns-clause-ok
 returns-clause-ok g c =

@@ -20,3 +20,19 @@ invariant-loop-event g l = let Keeps = g.T.Teller.Keeps in let held = g.W.Sink.h
 
 abbrev pub decreases-loop-event : goal.decreases-loop-event
 decreases-loop-event g l = left_count l.self.receiver.now
+
+abbrev pub invariant-loop-column : goal.invariant-loop-column
+invariant-loop-column g l = let Keeps = g.T.Teller.Keeps in let held = g.W.Sink.held in
+    record {
+      telling : (text : BeatsText) (beats : List (List ℕ)) (start : Option (List ℕ))
+          → IsListening Keeps l.fn.self.receiver.now l.fn.self.teller l.fn.self.aligned text beats
+          → Wrote start (held l.fn.sink) (text.so_far beats) l.fn.output
+          → IsTelling Keeps l.self.receiver.now l.self.teller l.self.aligned text (beats ++ l.fn.beat ∷ []) start (held l.sink) l.output;
+      weight : g.T.Teller.weight l.self.teller + 32 * left_count l.self.receiver.now ≤ 6400 * l.self.receiver.now.aligner.beats;
+      beats : l.self.receiver.now.aligner.beats ≡ l.fn.self.receiver.now.aligner.beats + 1;
+      later : g.W.Sink.faults l.fn.sink ≤ g.W.Sink.faults l.sink;
+      fewer : left_count l.self.receiver.now ≤ left_count l.initial.self.receiver.now;
+    }
+
+abbrev pub decreases-loop-column : goal.decreases-loop-column
+decreases-loop-column g l = left_count l.self.receiver.now

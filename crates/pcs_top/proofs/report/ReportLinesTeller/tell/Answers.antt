@@ -9,5 +9,4 @@ returns-clause-ok g c =
     (c.as_bytes.ensures.value ∙ c.deref.ensures.0 ∙ c.line_of-line.ensures.text h told stands is last) puts) c.put.ensures.ok
 
 pub returns-clause-err : goal.returns-clause-err
-returns-clause-err g c =
-    on_err_weaker c.put.result (λ breaks h told stands is last. breaks-at-event _ _ told _ _ _ breaks) c.put.ensures.err
+returns-clause-err g c = on_err_weaker c.put.result (λ breaks h told stands is last. breaks-at-event _ _ told _ _ _ breaks) c.put.ensures.err

@@ -8,8 +8,7 @@ pub draw_items-items-requires : goal.draw_items-items-requires
 draw_items-items-requires c = omega (arith, c.skew_limit-limit.ensures)
 
 pub open-requires-clause-items : goal.open-requires-clause-items
-open-requires-clause-items c =
-    c.draw_items-items.ensures.items ∙ ap₂ trial_items c.words_of-words.ensures c.skew_limit-limit.ensures
+open-requires-clause-items c = c.draw_items-items.ensures.items ∙ ap₂ trial_items c.words_of-words.ensures c.skew_limit-limit.ensures
 
 pub returns : goal.returns
 returns c = record {

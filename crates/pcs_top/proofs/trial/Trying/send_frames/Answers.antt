@@ -41,8 +41,7 @@ loop-i-preserved c =
     }
 
 pub returns-clause-made : goal.returns-clause-made
-returns-clause-made c =
-    frames-last c.args.options.now c.loop-i.self c.loop-i.maker.state _ c.loop-i.invariant.frames (omega (arith, c.loop-i-test.false))
+returns-clause-made c = frames-last c.args.options.now c.loop-i.self c.loop-i.maker.state _ c.loop-i.invariant.frames (omega (arith, c.loop-i-test.false))
 
 pub returns-clause-few : goal.returns-clause-few
 returns-clause-few c = omega (arith, c.loop-i.invariant.pairs, c.requires.ranges.count, c.loop-i.auto.i-end)
