@@ -19,8 +19,7 @@ moved_small A h = record { long = omega (arith, h.long, length-take 28 A); small
     small (suc zero) less = omega arith
     small (suc (suc zero)) less = omega arith
     small (suc (suc (suc zero))) less = omega arith
-    small (suc (suc (suc (suc i)))) less =
-        subst (λ n. n < 1024) (sym (get_or-take 28 A i 0 (omega arith))) (h.small i (omega arith))
+    small (suc (suc (suc (suc i)))) less = subst (λ n. n < 1024) (sym (get_or-take 28 A i 0 (omega arith))) (h.small i (omega arith))
 
 pub four_small : (A : List ℕ) → AreSymbols A → AreSymbols (0 ∷ 0 ∷ 0 ∷ 0 ∷ pick_l 0 A (range_with_len 0 28))
 four_small A h = subst (λ B. AreSymbols (0 ∷ 0 ∷ 0 ∷ 0 ∷ B)) (sym (picked 28 A (omega arith) h)) (moved_small A h)

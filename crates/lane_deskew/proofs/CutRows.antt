@@ -13,8 +13,7 @@ use Rattle.lane_deskew.proofs.Vectors.{column_at}
 
 -- the symbol of row n in lane v
 abbrev pub cut_symbol : List (List ℕ) → List ℕ → ℕ → ℕ → Symbol
-cut_symbol octets shifts n v =
-    symbol (number (slice_range (all_bits 8 (column v octets)) (slice_index shifts v + 10 * n) (slice_index shifts v + 10 * n + 10)))
+cut_symbol octets shifts n v = symbol (number (slice_range (all_bits 8 (column v octets)) (slice_index shifts v + 10 * n) (slice_index shifts v + 10 * n + 10)))
 
 -- the symbol of row n, by three octets from octet m on
 pub cut-symbol : (octets : List (List ℕ)) (shifts : List ℕ) (n v m shift more a b c : ℕ) → length octets ≡ 88 → m + 3 ≤ 88 → shift + more ≤ 14
@@ -38,5 +37,4 @@ row-is octets shifts n row size each = by_places 16 (cut_symbol octets shifts n)
 -- a place more of a list
 pub set_more : {X : Type 0} {f : ℕ → X} (d : X) (xs : List X) (u : ℕ) (x : X) → u < length xs → ((v : ℕ) → v < u → get_or xs v d ≡ f v) → x ≡ f u
     → (v : ℕ) → v < u + 1 → get_or (set xs u x) v d ≡ f v
-set_more d xs u x low before here =
-    below_more _ _ (λ v h. let ne : v ≢ u = omega arith in rw get_or-set_other (before v h)) (rw get_or-set_same here)
+set_more d xs u x low before here = below_more _ _ (λ v h. let ne : v ≢ u = omega arith in rw get_or-set_other (before v h)) (rw get_or-set_same here)

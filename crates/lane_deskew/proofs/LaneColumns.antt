@@ -22,14 +22,12 @@ use Rattle.lane_deskew.proofs.QuietRows.{quiet_after}
 
 column-longer : (l s : ℕ) (beats : List (List ℕ)) (beat : List ℕ) → s ≤ length beats
     → column l (drop s beats) ++ slice_index beat l ∷ [] ≡ column l (drop s (beats ++ beat ∷ []))
-column-longer l s beats beat le =
-    sym (ap (column l) (drop-append-le s beats (beat ∷ []) le) ∙ map-append (λ b. slice_index b l) (drop s beats) (beat ∷ []))
+column-longer l s beats beat le = sym (ap (column l) (drop-append-le s beats (beat ∷ []) le) ∙ map-append (λ b. slice_index b l) (drop s beats) (beat ∷ []))
 
 -- a beat more
 pub heard-longer : (c : Capture) (from s l : ℕ) (beat : List ℕ) → s ≤ length c.beats
     → heard (hearing c from s l) (slice_index beat l) ≡ hearing (longer c (beat ∷ [])) from s l
-heard-longer c from s l beat le =
-    ap (λ os. record { period = c.period; octets = os; from = from - 8 * s }) (column-longer l s c.beats beat le)
+heard-longer c from s l beat le = ap (λ os. record { period = c.period; octets = os; from = from - 8 * s }) (column-longer l s c.beats beat le)
 
 -- at most one beat: nothing is found yet
 pub nothing-yet : (c : Capture) (from s l : ℕ) → 1 ≤ c.period → length c.beats ≤ s + 1 → None ≡ found_of (hearing c from s l)

@@ -100,8 +100,7 @@ part_below v q r k i low small before =
       | inr other ↦ let next : k ≢ q + 1 = omega arith in rw (ne_eqb k q other, ne_eqb k (q + 1) next) (bit_at-zero i)
     ]
 
-part_above : (v q r k i : ℕ) → v < 2 ^ 8 → r < 8 → i < 8 → 8 * q + r ≤ 8 * k + i
-    → bit_at (word_octet (v * 2 ^ r) q k) i ≡ bit_at v (8 * k + i - (8 * q + r))
+part_above : (v q r k i : ℕ) → v < 2 ^ 8 → r < 8 → i < 8 → 8 * q + r ≤ 8 * k + i → bit_at (word_octet (v * 2 ^ r) q k) i ≡ bit_at v (8 * k + i - (8 * q + r))
 part_above v q r k i fits low small after =
     elim (cases_eq k q) [
       | inl same ↦ rw (eq-eqb k q same) (bit_at-shl_word 8 v r i (8 * k + i - (8 * q + r)) small (omega arith))

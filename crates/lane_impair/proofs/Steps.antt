@@ -25,13 +25,11 @@ lane_is beats l low = at-for_each 16 (λ l. all_bits 8 (map (λ beat. get_or bea
 
 pub lane_more : (beats : List (List ℕ)) (beat : List ℕ) (l : ℕ) → lane_bits (beats ++ beat ∷ []) l ≡ lane_bits beats l ++ bits 8 (get_or beat l 0)
 unfolding lane_bits
-lane_more beats beat l =
-    ap (all_bits 8) (map-append (λ b. get_or b l 0) beats (beat ∷ [])) ∙ all_bits-push 8 (map (λ b. get_or b l 0) beats) (get_or beat l 0)
+lane_more beats beat l = ap (all_bits 8) (map-append (λ b. get_or b l 0) beats (beat ∷ [])) ∙ all_bits-push 8 (map (λ b. get_or b l 0) beats) (get_or beat l 0)
 
 pub length-lane_bits : (beats : List (List ℕ)) (l : ℕ) → length (lane_bits beats l) ≡ 8 * length beats
 unfolding lane_bits
-length-lane_bits beats l =
-    length-all_bits 8 (map (λ b. get_or b l 0) beats) ∙ omega (arith, length-map beats (λ (b : List ℕ). get_or b l 0))
+length-lane_bits beats l = length-all_bits 8 (map (λ b. get_or b l 0) beats) ∙ omega (arith, length-map beats (λ (b : List ℕ). get_or b l 0))
 
 -- an octet behind a lane is inverted by itself
 pub inverted_more : (items : List Item) (l b o p : ℕ) (xs : List ℕ) → length xs ≡ 8 * b
@@ -85,8 +83,7 @@ kept-append items l n (x ∷ xs) ys =
     ]
 
 -- where nothing is taken out, all is kept
-pub kept-all : (items : List Item) (l n : ℕ) (xs : List ℕ) → ((i : ℕ) → i < length xs → count_by (takes_out l (n + i)) items ≡ 0)
-    → kept_from items l n xs ≡ xs
+pub kept-all : (items : List Item) (l n : ℕ) (xs : List ℕ) → ((i : ℕ) → i < length xs → count_by (takes_out l (n + i)) items ≡ 0) → kept_from items l n xs ≡ xs
 kept-all items l n [] none = refl
 kept-all items l n (x ∷ xs) none =
     let here : n + 0 ≡ n = omega arith in

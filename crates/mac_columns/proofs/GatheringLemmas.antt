@@ -24,8 +24,7 @@ too-long x d y long =
     ))
 
 within-more : (x d : List ℕ) → is_within x ≡ false → is_within (x ++ d) ≡ false
-within-more x d long =
-    lt-leb (length (x ++ d)) most_octets (omega (arith, leb-false (length x) most_octets long, length-append x d))
+within-more x d long = lt-leb (length (x ++ d)) most_octets (omega (arith, leb-false (length x) most_octets long, length-append x d))
 
 within-twice : (o : Option (List ℕ)) (d : List ℕ)
     → if_within (option_map (λ octets. octets ++ d) o) ≡ if_within (option_map (λ octets. octets ++ d) (if_within o))
@@ -133,8 +132,7 @@ takes-stands old now column answer takes past stands =
     ∙ ap (λ o. record { open_now = open_frame (column ∷ past); just_ended = o; room = old.room }) ended
     ∙ ap (λ r. record { open_now = open_frame (column ∷ past); just_ended = ended_frame (column ∷ past); room = r }) (sym (ap (λ g. g.room) takes.holds))
 
-pub takes-room : (old now : Gathering) (column : Column) (answer : Gathered) → Takes old.open_now old.room column answer now
-    → now.room ≡ old.room
+pub takes-room : (old now : Gathering) (column : Column) (answer : Gathered) → Takes old.open_now old.room column answer now → now.room ≡ old.room
 unfolding after
 takes-room old now column answer takes = ap (λ g. g.room) takes.holds
 

@@ -24,8 +24,7 @@ abbrev pub reading : {X : Type 0} → List ℕ → List X → History X
 reading octets lines = record { limit = 2 ^ 40; octets = octets; lines = lines; standing = Going }
 
 -- the text is written, where the sink tells
-pub all-written : (before after : Option (List ℕ)) (text : List ℕ) → Appends before after text
-    → IfSome before (λ b. IfSome after (λ a. a ≡ b ++ text))
+pub all-written : (before after : Option (List ℕ)) (text : List ℕ) → Appends before after text → IfSome before (λ b. IfSome after (λ a. a ≡ b ++ text))
 all-written None after text a = tt
 all-written (Some before) None text a = absurd a
 all-written (Some before) (Some after) text a = a

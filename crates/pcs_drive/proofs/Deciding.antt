@@ -165,8 +165,7 @@ module _ {X : Type 0} (line_at : List ℕ → LineAt X) (grammar : IsGrammar lin
 
   pub stopped : (text_of : List X → List ℕ) (seen : Seen) (input : List ℕ) (outcome : Outcome) → Given seen input → length input ≤ 2 ^ 40
       → Converted line_at text_of seen outcome → IsSettled outcome → (lines : List X) × Stopped input lines outcome
-  stopped text_of seen input Done g short c s =
-      (c.1, stopped-done input c.0 c.1 (all seen input g.rest c.0 g.before g.after c.2) c.4 c.3)
+  stopped text_of seen input Done g short c s = (c.1, stopped-done input c.0 c.1 (all seen input g.rest c.0 g.before g.after c.2) c.4 c.3)
   stopped text_of seen input ReadFault g short c s = absurd (s.reads refl)
   stopped text_of seen input WriteFault g short c s = absurd (s.writes refl)
   stopped text_of seen input NoMemory g short c s = absurd (s.memory refl)

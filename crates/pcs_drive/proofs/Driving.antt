@@ -30,8 +30,7 @@ use Rattle.pcs_drive.proofs.Copying.{all-written, rose-after}
 use Rattle.pcs_drive.proofs.WritingLemmas.{wrote-all}
 
 -- beats in front of octets have sixteen octets each
-sixteens : (octets : List ℕ) (beats : List (List ℕ)) (rest : List ℕ) → Begins beat_at octets beats rest
-    → AllByRecursion (λ beat. length beat ≡ 16) beats
+sixteens : (octets : List ℕ) (beats : List (List ℕ)) (rest : List ℕ) → Begins beat_at octets beats rest → AllByRecursion (λ beat. length beat ≡ 16) beats
 sixteens octets [] rest b = tt
 sixteens octets (beat ∷ beats) rest b = ((is-piece octets beat b.0 b.1).sixteen, sixteens b.0 beats rest b.2)
 

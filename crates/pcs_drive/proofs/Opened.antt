@@ -38,15 +38,13 @@ module _ {X : Type 0} (at : List ℕ → FrontAt X) (read_as : X → Front) wher
           → FromFileBy at text seen (outcome_of_capture why)
       by fault.Read a rose = inl (got, rose refl, a.0, a.1, nothing)
       by (fault.BadHeader bad) (inl a) rose = ((got, inl (takes-consumed seen.left_before seen.left_after got a.0, a.1, a.2)), nothing)
-      by (fault.BadHeader bad) (inr a) rose =
-          ((got, inr (a.0, record { took = a.1.source; nothing = a.1.nothing; ended = a.1.over }, a.2, a.3)), nothing)
+      by (fault.BadHeader bad) (inr a) rose = ((got, inr (a.0, record { took = a.1.source; nothing = a.1.nothing; ended = a.1.over }, a.2, a.3)), nothing)
       by fault.TooLong a rose = absurd (omega (arith, a.1, short got a.2))
 
   -- there was no memory behind the header
   pub no-memory-behind : (text : TextBehind X) (seen : Seen) (beats : BeatsState) (header : X) → HasOpenedBy at read_as beats header seen.left_before seen.left_after
       → seen.held_after ≡ seen.held_before → FromFileBy at text seen NoMemory
-  no-memory-behind text seen beats header o same =
-      (o.history.octets, takes-consumed seen.left_before seen.left_after o.history.octets o.took, o.few, same)
+  no-memory-behind text seen beats header o same = (o.history.octets, takes-consumed seen.left_before seen.left_after o.history.octets o.took, o.few, same)
 
   -- the header was read
   pub read-header : ((x : BeatsState) (h : History) (header : X) → Stands x h → x.front ≡ read_as header → h.beats ≡ [] → h.course ≡ Going

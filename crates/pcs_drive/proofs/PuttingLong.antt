@@ -5,14 +5,12 @@ use Rattle.pcs_io.specs.Octets.{AppendsFront}
 use Rattle.pcs_drive.specs.Writing.{Wrote, Puts, Stays, BreaksOff, BreaksOffBefore}
 use Rattle.pcs_drive.proofs.WritingLemmas.{front-more, wrote-more, wrote-flushed, wrote-front}
 
-pub puts-long : (held mid now : Option (List ℕ)) (old more new : List ℕ) → Stays held old mid [] → Appends mid now more → new ≡ []
-    → Puts held old more now new
+pub puts-long : (held mid now : Option (List ℕ)) (old more new : List ℕ) → Stays held old mid [] → Appends mid now more → new ≡ [] → Puts held old more now new
 puts-long held mid now old more new stays appended none start text w =
     subst (λ p. Wrote start now (text ++ more) p) (sym none)
     (wrote-flushed start mid now (text ++ more) more (wrote-more start mid text [] more (stays start text w)) appended)
 
-pub breaks-long : (held mid now : Option (List ℕ)) (old more : List ℕ) → Stays held old mid [] → AppendsFront mid now more
-    → BreaksOff held old more now
+pub breaks-long : (held mid now : Option (List ℕ)) (old more : List ℕ) → Stays held old mid [] → AppendsFront mid now more → BreaksOff held old more now
 breaks-long held mid now old more stays front start text w =
     wrote-front start mid now (text ++ more) more (wrote-more start mid text [] more (stays start text w)) front
 

@@ -19,8 +19,7 @@ pub wrote-pending : (start : Option (List ℕ)) (text pending : List ℕ) → te
 wrote-pending start text pending is = record { written = []; appended = appends-none start; joined = is }
 
 -- more text stands behind
-pub wrote-more : (start now : Option (List ℕ)) (text pending more : List ℕ) → Wrote start now text pending
-    → Wrote start now (text ++ more) (pending ++ more)
+pub wrote-more : (start now : Option (List ℕ)) (text pending more : List ℕ) → Wrote start now text pending → Wrote start now (text ++ more) (pending ++ more)
 wrote-more start now text pending more w = record {
   written = w.written;
   appended = w.appended;

@@ -32,8 +32,7 @@ one-behind : (header : LevelsHeader) (beats all : List (List ℕ)) (beat : List 
 one-behind header beats all beat is = behind header beats all (beat ∷ []) is ∙ ap (λ o. under_header header beats ++ o) (append-nil beat)
 
 pub no-beats : (phase : ℕ) (header : LevelsHeader) → (demultiplexed phase header).so_far [] ≡ header2_octets header.period header.skew
-no-beats phase header =
-    ap (under_header header) (none-given header.precode phase [] (omega arith)) ∙ append-nil (header2_octets header.period header.skew)
+no-beats phase header = ap (under_header header) (none-given header.precode phase [] (omega arith)) ∙ append-nil (header2_octets header.period header.skew)
 
 pub demultiplexed-grows : (phase : ℕ) (header : LevelsHeader) → Grows (demultiplexed phase header)
 demultiplexed-grows phase header taken more =

@@ -170,8 +170,7 @@ module _ (short : Bool) (input : List ℕ) where
         stop = open-stop order ends.0 ends.2;
         is = rw ends.2 (long-verdict ends.0 (length c.1) many);
       }))
-  stopped gap seen (BadRecord number kind) g low c s =
-      subst (λ n. Stopped (BadRecord n kind)) (sym c.1) (bad-record seen g c.0 kind c.2)
+  stopped gap seen (BadRecord number kind) g low c s = subst (λ n. Stopped (BadRecord n kind)) (sym c.1) (bad-record seen g c.0 kind c.2)
 
 pub pcap-decides : PcapDecides
 pcap-decides gap short true input low one other first second g h (x, is, inl a) (y, so, inl b) s t =

@@ -28,8 +28,7 @@ no-frames gap = refl
 
 one-frame : (gap : ℕ) (frames : List (List ℕ)) (frame : List ℕ) → unpacked_text gap (frames ++ frame ∷ []) ≡ unpacked_text gap frames ++ frame_line gap frame
 unfolding unpacked_text
-one-frame gap frames frame =
-    flat_map-append (frame_line gap) frames (frame ∷ []) ∙ ap (λ t. unpacked_text gap frames ++ t) (append-nil (frame_line gap frame))
+one-frame gap frames frame = flat_map-append (frame_line gap) frames (frame ∷ []) ∙ ap (λ t. unpacked_text gap frames ++ t) (append-nil (frame_line gap frame))
 
 -- a reader that has taken these octets and answered these frames
 abbrev reading : Bool → List ℕ → List (List ℕ) → History
@@ -84,8 +83,7 @@ module _ (gap : ℕ) (short : Bool) where
           → (failing ≡ fault.Read → ReadFailed seen) → Unpacked gap short seen (outcome_of_pcap failing)
       by fault.Read got a rose = (rose refl, got, inl (a.0, a.1, nothing))
       by (fault.BadHeader bad) got (inl a) rose = ((got, inl (takes-consumed seen.left_before seen.left_after got a.0, a.1)), nothing)
-      by (fault.BadHeader bad) got (inr a) rose =
-          ((got, inr (a.0, record { took = a.1.source; nothing = a.1.nothing; ended = a.1.over }, a.2, a.3)), nothing)
+      by (fault.BadHeader bad) got (inr a) rose = ((got, inr (a.0, record { took = a.1.source; nothing = a.1.nothing; ended = a.1.over }, a.2, a.3)), nothing)
       by (fault.BadRecord number kind) got a rose = absurd a
       by fault.TooLong got a rose = absurd (omega (arith, a.1, header-long got a.2))
 
@@ -155,8 +153,7 @@ module _ (gap : ℕ) (short : Bool) where
             (u.frames, is, (u.octets ++ got, u.order, a.1, a.2, inl (took-more seen mid u.octets got u.took a.0, a.3)), flushed-text flushed)
         by (fault.BadRecord number kind) (got, (is, inr a), stands) rose =
             (u.frames, is, (u.octets ++ got, u.order, a.3, a.4, inr (a.0, took-all seen mid u.octets got u.took a.1, a.2, a.5, a.6)), flushed-text flushed)
-        by fault.TooLong t rose =
-            (u.octets ++ t.0, u.frames, (took-more seen mid u.octets t.0 u.took t.1.0, u.order, t.1.2), t.1.1, flushed-text flushed)
+        by fault.TooLong t rose = (u.octets ++ t.0, u.frames, (took-more seen mid u.octets t.0 u.took t.1.0, u.order, t.1.2), t.1.1, flushed-text flushed)
 
     -- a write failed at the end of the input
     pub end-failed : (new : PcapState) → Nexts old new mid seen.left_after seen.ended (Ok None) → WriteFailed seen → BreaksOffBefore held_mid pending seen.held_after

@@ -33,8 +33,7 @@ kept-idles p (suc gap) past rest =
       | inr stays ↦ (suc m, record { after = behind.after; same = rw stays (ap (λ cs. Idle ∷ cs) behind.same) })
     ]
 
-kept-body : (p n : ℕ) (frame : List ℕ) (gap : ℕ) (past rest : List Column) → length frame < n
-    → (m : ℕ) × Kept p past (body_of frame gap) (body_of frame m) rest
+kept-body : (p n : ℕ) (frame : List ℕ) (gap : ℕ) (past rest : List Column) → length frame < n → (m : ℕ) × Kept p past (body_of frame gap) (body_of frame m) rest
 unfolding kept_after
 kept-body p zero frame gap past rest small = absurd (omega arith)
 kept-body p (suc n) frame gap past rest small =

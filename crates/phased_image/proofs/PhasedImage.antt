@@ -85,8 +85,7 @@ module _ (mask : ℕ) (c d : Capture) (lanes : List (List ℕ)) (image : Image) 
       ∙ ap (λ n. for_each n (turn xs ys (l % 2 + bit_at mask (l / 2)))) (length-lane_of c.beats (2 * (l / 2)))
 
   same_length : bit_count d ≡ bit_count c
-  same_length =
-      sym (length-lane_of d.beats 0) ∙ ap length (lane-is 0 (omega arith)) ∙ length-for_each (bit_count c) _
+  same_length = sym (length-lane_of d.beats 0) ∙ ap length (lane-is 0 (omega arith)) ∙ length-for_each (bit_count c) _
 
   bits : (l n : ℕ) → l < 16 → n < bit_count d → bit (lane d l) n ≡ bit (lane c (partner mask l)) (n + late mask l)
   bits l n low small =

@@ -78,13 +78,11 @@ module _ (mask : ℕ) (c d : Capture) (lanes : List (List ℕ)) (image : Image) 
 
   a-same : wrong_a d lanes new t ≡ wrong_a c lanes image t
   unfolding wrong_a
-  a-same =
-      count-same _ _ 0 544 (λ i from to. wrong-same ((543 - i) / 8) (2 * ((543 - i) % 8) + (543 - i) / 8 % 2) (omega arith))
+  a-same = count-same _ _ 0 544 (λ i from to. wrong-same ((543 - i) / 8) (2 * ((543 - i) % 8) + (543 - i) / 8 % 2) (omega arith))
 
   b-same : wrong_b d lanes new t ≡ wrong_b c lanes image t
   unfolding wrong_b
-  b-same =
-      count-same _ _ 0 544 (λ i from to. wrong-same ((543 - i) / 8) (2 * ((543 - i) % 8) + ((543 - i) / 8 + 1) % 2) (omega arith))
+  b-same = count-same _ _ 0 544 (λ i from to. wrong-same ((543 - i) / 8) (2 * ((543 - i) % 8) + ((543 - i) / 8 + 1) % 2) (omega arith))
 
 pub phases_keep_wrong : PhasesKeepWrong
 phases_keep_wrong mask c d lanes image t is room has begins = (a-same mask c d lanes image t is room has begins, b-same mask c d lanes image t is room has begins)

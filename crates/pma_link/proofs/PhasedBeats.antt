@@ -108,8 +108,7 @@ next-is p mask taken b beat is each =
     (λ l low. octet-is (phased_lane mask (stream_in p taken) l) (8 * b) (get_or beat l 0) (is.octets l) (λ i small. each l i low small))
 
 length-given : (mask : ℕ) (p : Bool) (taken : List (List ℕ)) (l : ℕ) → length (given mask p taken l) ≡ 8 * (length taken - 1)
-length-given mask p taken l =
-    length-take-le (8 * (length taken - 1)) (phased_lane mask (stream_in p taken) l) (omega (arith, length-phased p mask taken l))
+length-given mask p taken l = length-take-le (8 * (length taken - 1)) (phased_lane mask (stream_in p taken) l) (omega (arith, length-phased p mask taken l))
 
 pub given_beats_go_on : GivenBeatsGoOn
 given_beats_go_on mask p taken more beat some is goes =
@@ -138,8 +137,7 @@ phased_beats_end mask p taken beat some is goes =
     ap (λ n. for_each n (phased_beat p mask taken)) count ∙ one-more (phased_beat p mask taken) m
     ∙ ap₂ (λ bs b. bs ++ b ∷ []) (sym (given-are p mask taken)) (sym (next-is p mask taken m beat is each))
   where
-    each : (l i : ℕ) → l < 16 → i < 8
-        → bit (phased_lane mask (stream_in p taken) l) (8 * (length taken - 1) + i) ≡ get_or (bits 8 (get_or beat l 0)) i 0
+    each : (l i : ℕ) → l < 16 → i < 8 → bit (phased_lane mask (stream_in p taken) l) (8 * (length taken - 1) + i) ≡ get_or (bits 8 (get_or beat l 0)) i 0
     each l i low small =
         let at = 8 * (length taken - 1) + i in
         let own = bits 8 (get_or beat l 0) in

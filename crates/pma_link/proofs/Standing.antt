@@ -103,8 +103,7 @@ beats-push p taken beats last level_beat beat are lasts each = record {
 turn-behind : (xs xs' ys ys' : List ℕ) (r a n : ℕ) → length xs ≡ a → length ys ≡ a → turn (xs ++ xs') (ys ++ ys') r (a + n) ≡ turn xs' ys' r n
 turn-behind xs xs' ys ys' zero a n ex ey = get_or-append_right xs xs' a (a + n) 0 ex (omega arith) ∙ ap (λ k. get_or xs' k 0) (omega arith)
 turn-behind xs xs' ys ys' (suc zero) a n ex ey = get_or-append_right ys ys' a (a + n) 0 ey (omega arith) ∙ ap (λ k. get_or ys' k 0) (omega arith)
-turn-behind xs xs' ys ys' (suc (suc r)) a n ex ey =
-    get_or-append_right xs xs' a (a + n + 1) 0 ex (omega arith) ∙ ap (λ k. get_or xs' k 0) (omega arith)
+turn-behind xs xs' ys ys' (suc (suc r)) a n ex ey = get_or-append_right xs xs' a (a + n + 1) 0 ex (omega arith) ∙ ap (λ k. get_or xs' k 0) (omega arith)
 
 turn-before : (xs xs' ys ys' : List ℕ) (r n : ℕ) → n + 1 < length xs → length xs ≡ length ys → turn (xs ++ xs') (ys ++ ys') r n ≡ turn xs ys r n
 turn-before xs xs' ys ys' zero n low e = get_or_append_left xs xs' 0 n (omega arith)
@@ -119,8 +118,7 @@ get_or-zeros xs zs n none =
       | inr high ↦ get_or-append_right xs zs (length xs) n 0 refl high ∙ none (n - length xs) ∙ sym (get_or_past xs n 0 high)
     ]
 
-turn-zeros : (xs zs ys ws : List ℕ) (r n : ℕ) → ((k : ℕ) → get_or zs k 0 ≡ 0) → ((k : ℕ) → get_or ws k 0 ≡ 0)
-    → turn (xs ++ zs) (ys ++ ws) r n ≡ turn xs ys r n
+turn-zeros : (xs zs ys ws : List ℕ) (r n : ℕ) → ((k : ℕ) → get_or zs k 0 ≡ 0) → ((k : ℕ) → get_or ws k 0 ≡ 0) → turn (xs ++ zs) (ys ++ ws) r n ≡ turn xs ys r n
 turn-zeros xs zs ys ws zero n hz hw = get_or-zeros xs zs n hz
 turn-zeros xs zs ys ws (suc zero) n hz hw = get_or-zeros ys ws n hw
 turn-zeros xs zs ys ws (suc (suc r)) n hz hw = get_or-zeros xs zs (n + 1) hz
@@ -268,11 +266,9 @@ pub last_some : (held : Option (List ℕ)) (beat : List ℕ) (beats : List (List
 last_some held beat beats e is = rw e at is
 
 pub some_taken : (p : Bool) (taken beats before : List (List ℕ)) (beat : List ℕ) → AreBeats p taken beats → beats ≡ before ++ beat ∷ [] → taken ≡ [] → ⊥
-some_taken p taken beats before beat are e none =
-    omega (arith, are.same_length, ap length e, length-append before (beat ∷ []), ap length none)
+some_taken p taken beats before beat are e none = omega (arith, are.same_length, ap length e, length-append before (beat ∷ []), ap length none)
 
-given-beats : (mask : ℕ) (p : Bool) (taken beats : List (List ℕ)) (l : ℕ) → AreBeats p taken beats → l < 16
-    → given mask p taken l ≡ all_but_last mask beats l
+given-beats : (mask : ℕ) (p : Bool) (taken beats : List (List ℕ)) (l : ℕ) → AreBeats p taken beats → l < 16 → given mask p taken l ≡ all_but_last mask beats l
 given-beats mask p taken beats l are low =
     ap₂ (λ n xs. take (8 * (n - 1)) xs) (sym are.same_length)
     (same_phased mask (stream_in p taken) (stream beats) l (are.streams (l / 2) (omega arith)))

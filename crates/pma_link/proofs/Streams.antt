@@ -29,8 +29,7 @@ second-by_turns (x ∷ xs) (y ∷ ys) (suc n) e =
     let place : 2 * suc n + 1 ≡ suc (suc (2 * n + 1)) = omega arith in
     ap (λ k. get_or (x ∷ y ∷ by_turns xs ys) k 0) place ∙ second-by_turns xs ys n (omega (arith, e))
 
-pub by_turns-append : (xs ys xs' ys' : List ℕ) → length xs ≡ length ys
-    → by_turns (xs ++ xs') (ys ++ ys') ≡ by_turns xs ys ++ by_turns xs' ys'
+pub by_turns-append : (xs ys xs' ys' : List ℕ) → length xs ≡ length ys → by_turns (xs ++ xs') (ys ++ ys') ≡ by_turns xs ys ++ by_turns xs' ys'
 unfolding by_turns
 by_turns-append [] [] xs' ys' e = refl
 by_turns-append [] (y ∷ ys) xs' ys' e = absurd (omega (arith, e))
@@ -59,8 +58,7 @@ two_back (suc (suc a)) b ha hb = absurd (omega arith)
 two_back zero (suc (suc b)) ha hb = absurd (omega arith)
 two_back (suc zero) (suc (suc b)) ha hb = absurd (omega arith)
 
-pub stream_back : (xs ys : List ℕ) → length xs ≡ length ys → IsBits xs → IsBits ys
-    → bits_of_grays (gray_numbers (by_turns xs ys)) ≡ by_turns xs ys
+pub stream_back : (xs ys : List ℕ) → length xs ≡ length ys → IsBits xs → IsBits ys → bits_of_grays (gray_numbers (by_turns xs ys)) ≡ by_turns xs ys
 unfolding by_turns gray_numbers bits_of_grays
 stream_back [] ys e hx hy = refl
 stream_back (x ∷ xs) [] e hx hy = absurd (omega (arith, e))
@@ -107,8 +105,7 @@ mod4_back g b hb hg = omega arith
 pub precoded-back : (b : ℕ) (gs : List ℕ) → b < 4 → ((k : ℕ) → get_or gs k 0 < 4) → decoded b (precoded b gs) ≡ gs
 unfolding precoded decoded
 precoded-back b [] hb small = refl
-precoded-back b (g ∷ gs) hb small =
-    ap₂ (λ x xs. x ∷ xs) (mod4_back g b hb (small 0)) (precoded-back ((g + 4 - b) % 4) gs (omega arith) (λ k. small (suc k)))
+precoded-back b (g ∷ gs) hb small = ap₂ (λ x xs. x ∷ xs) (mod4_back g b hb (small 0)) (precoded-back ((g + 4 - b) % 4) gs (omega arith) (λ k. small (suc k)))
 
 pub length-precoded : (b : ℕ) (gs : List ℕ) → length (precoded b gs) ≡ length gs
 unfolding precoded
@@ -166,7 +163,6 @@ pub coded-append : (precode : Bool) (b : ℕ) (gs hs : List ℕ)
 coded-append false b gs hs = refl
 coded-append true b gs hs = precoded-append b gs hs
 
-pub uncoded-append : (precode : Bool) (b : ℕ) (ps qs : List ℕ)
-    → uncoded precode b (ps ++ qs) ≡ uncoded precode b ps ++ uncoded precode (last_of b ps) qs
+pub uncoded-append : (precode : Bool) (b : ℕ) (ps qs : List ℕ) → uncoded precode b (ps ++ qs) ≡ uncoded precode b ps ++ uncoded precode (last_of b ps) qs
 uncoded-append false b ps qs = refl
 uncoded-append true b ps qs = decoded-append b ps qs

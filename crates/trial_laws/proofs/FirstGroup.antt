@@ -165,8 +165,7 @@ module _ (seed count p : ℕ) (some : 1 ≤ p) where
       ∙ ap (λ s. ((bit (slice_index_or sent u []) (680 * t + j) + bit_of s) % 2 + 0) % 2) (unstruck u t j early small)
       ∙ still (bit (slice_index_or sent u []) (680 * t + j)) (are_bits-carried p (trial_columns seed count p) u (source-low l low) (680 * t + j))
 
-  window-is : (l t : ℕ) → l < 16 → t < 2 * p → t < pairs → (t % p == 0) ≡ true
-      → window (lane c l) (skew_at l + 680 * t) ≡ marker_bits (source its l)
+  window-is : (l t : ℕ) → l < 16 → t < 2 * p → t < pairs → (t % p == 0) ≡ true → window (lane c l) (skew_at l + 680 * t) ≡ marker_bits (source its l)
   window-is l t low early full begins =
       let u = source its l in
       let from = skew_at l + 680 * t in

@@ -49,8 +49,7 @@ step-most slack false = omega arith
 
 slack-most : (slack : ℕ) (columns : List Column) → slack_after slack columns ≤ slack + length columns
 slack-most slack [] = omega arith
-slack-most slack (column ∷ columns) =
-    omega (arith, slack-most (slack_step slack column) columns, step-most slack (is_idle column))
+slack-most slack (column ∷ columns) = omega (arith, slack-most (slack_step slack column) columns, step-most slack (is_idle column))
 
 slack-idles : (slack gap : ℕ) → slack_after slack (replicate gap Idle) ≡ slack - 4 * gap
 slack-idles slack zero = omega arith
@@ -88,8 +87,7 @@ bound_step r n k s g false low big le few paid h = bound_kept r n k s le h
 not_less : (x y : ℕ) → nat_lt x y ≡ false → y ≤ x
 not_less x y e = grind (arith, nat_tests)
 
-slack_bounds : (p : ℕ) (past : List Column) → 1 ≤ p
-    → 32 * kept_count p past ≤ room p * (length past - kept_count p past) + 32 + 32 * slack_of past
+slack_bounds : (p : ℕ) (past : List Column) → 1 ≤ p → 32 * kept_count p past ≤ room p * (length past - kept_count p past) + 32 + 32 * slack_of past
 unfolding kept_count groups_of
 slack_bounds p [] some = omega arith
 slack_bounds p (column ∷ past) some =
@@ -143,8 +141,7 @@ frame_columns frame = Start preamble ∷ (data_columns frame ++ End (remainder f
 
 columns-split : (frame : List ℕ) (gap : ℕ) → columns_of frame gap ≡ frame_columns frame ++ replicate gap Idle
 unfolding columns_of body_of
-columns-split frame gap =
-    ap (λ rest. Start preamble ∷ rest) (sym (append_assoc (data_columns frame) (End (remainder frame) ∷ []) (replicate gap Idle)))
+columns-split frame gap = ap (λ rest. Start preamble ∷ rest) (sym (append_assoc (data_columns frame) (End (remainder frame) ∷ []) (replicate gap Idle)))
 
 length-frame_columns : (frame : List ℕ) → length (frame_columns frame) ≡ 2 + length frame / 8
 length-frame_columns frame =

@@ -34,5 +34,4 @@ frame-octets state =
 pub are-frames : (state count : ℕ) → AllByRecursion CanBeSent (trial_frames state count)
 unfolding trial_frames
 are-frames state zero = tt
-are-frames state (suc count) =
-    ((frame-octets state, omega (arith, length-frame_of state, length_of-most state)), are-frames (behind_frame state) count)
+are-frames state (suc count) = ((frame-octets state, omega (arith, length-frame_of state, length_of-most state)), are-frames (behind_frame state) count)

@@ -81,8 +81,7 @@ module _ (lanes : List (List ℕ)) (its : List Item) (moves : MovesLanes lanes i
       ap (λ l. slice_index_or (impaired lanes its) l []) (sym (mod-eq_of_lt low))))
 
   -- the lanes of their beats are these lanes
-  pub lanes-back : (p l : ℕ) → l < 16
-      → lane (record { period = p; beats = beats_of (impaired lanes its) }) l ≡ slice_index_or (impaired lanes its) l []
+  pub lanes-back : (p l : ℕ) → l < 16 → lane (record { period = p; beats = beats_of (impaired lanes its) }) l ≡ slice_index_or (impaired lanes its) l []
   unfolding lane_octets
   lanes-back p l low =
       let has = has-beats_of out (beat_count lanes its)

@@ -72,8 +72,7 @@ order-permutes seed (suc n) low =
 one_skew : (test : Item → ℕ) (a n : ℕ) (f : ℕ → ℕ) (x y : ℕ) → test (Skew a (f a)) ≡ x
     → sum_by test (map (λ k. Skew k (f k)) (range_with_len (a + 1) n)) ≡ y
     → sum_by test (map (λ k. Skew k (f k)) (range_with_len a (suc n))) ≡ x + y
-one_skew test a n f x y here rest =
-    sum_by-cons test (Skew a (f a)) (map (λ k. Skew k (f k)) (range_with_len (a + 1) n)) ∙ ap₂ (λ x y. x + y) here rest
+one_skew test a n f x y here rest = sum_by-cons test (Skew a (f a)) (map (λ k. Skew k (f k)) (range_with_len (a + 1) n)) ∙ ap₂ (λ x y. x + y) here rest
 
 skews-none : (f : ℕ → ℕ) (l a n : ℕ) → l < a → sum_by (skew_by l) (map (λ k. Skew k (f k)) (range_with_len a n)) ≡ 0
 skews-none f l a zero below = refl
@@ -102,8 +101,7 @@ skew-of_trial seed limit l low =
 
 no-inverts : (l m a n : ℕ) (f : ℕ → ℕ) → count_by (inverts l m) (map (λ k. Skew k (f k)) (range_with_len a n)) ≡ 0
 no-inverts l m a zero f = refl
-no-inverts l m a (suc n) f =
-    one_skew (λ i. cond (inverts l m i) 1 0) a n f 0 0 refl (no-inverts l m (a + 1) n f)
+no-inverts l m a (suc n) f = one_skew (λ i. cond (inverts l m i) 1 0) a n f 0 0 refl (no-inverts l m (a + 1) n f)
 
 -- no item inverts a bit
 pub inverts-none : (seed limit l m : ℕ) → count_by (inverts l m) (trial_items seed limit) ≡ 0
@@ -114,8 +112,7 @@ inverts-none seed limit l m =
 
 skews-drop-none : (f : ℕ → ℕ) (a n : ℕ) → count_by is_drop (map (λ k. Skew k (f k)) (range_with_len a n)) ≡ 0
 skews-drop-none f a zero = refl
-skews-drop-none f a (suc n) =
-    one_skew (λ i. cond (is_drop i) 1 0) a n f 0 0 refl (skews-drop-none f (a + 1) n)
+skews-drop-none f a (suc n) = one_skew (λ i. cond (is_drop i) 1 0) a n f 0 0 refl (skews-drop-none f (a + 1) n)
 
 pub no-drops : (seed limit : ℕ) → count_by is_drop (trial_items seed limit) ≡ 0
 unfolding trial_items for_each
@@ -174,8 +171,7 @@ skew-once f l a (suc n) =
 count-other : (test : Item → Bool) (f : ℕ → ℕ) (a n : ℕ) → ((k : ℕ) → test (Skew k (f k)) ≡ false)
     → count_by test (map (λ k. Skew k (f k)) (range_with_len a n)) ≡ 0
 count-other test f a zero none = refl
-count-other test f a (suc n) none =
-    one_skew (λ i. cond (test i) 1 0) a n f 0 0 (ap (λ b. cond {A = ℕ} b 1 0) (none a)) (count-other test f (a + 1) n none)
+count-other test f a (suc n) none = one_skew (λ i. cond (test i) 1 0) a n f 0 0 (ap (λ b. cond {A = ℕ} b 1 0) (none a)) (count-other test f (a + 1) n none)
 
 pub trial_opens : TrialOpens
 unfolding trial_items for_each

@@ -19,5 +19,4 @@ returns-in_err-put_hex_line-clause-err g c =
     rw exit.1 (breaks-later _ _ _ _ _ _ _ c.in_ok-put_gap.ensures.ok (breaks-within _ _ _ _ _ _ _ c.in_ok-put.ensures.ok c.in_err-put_hex_line.ensures.err))
 
 pub returns-clause-ok : goal.returns-clause-ok
-returns-clause-ok g c =
-    puts-both _ _ _ _ _ _ _ _ c.in_ok-put_gap.ensures.ok (puts-both _ _ _ _ _ _ _ _ c.in_ok-put.ensures.ok c.in_ok-put_hex_line.ensures.ok)
+returns-clause-ok g c = puts-both _ _ _ _ _ _ _ _ c.in_ok-put_gap.ensures.ok (puts-both _ _ _ _ _ _ _ _ c.in_ok-put.ensures.ok c.in_ok-put_hex_line.ensures.ok)

@@ -8,5 +8,4 @@ returns-in_err-put_all-clause-err g c =
     rw (exit.1, ← c.self.view_is) (λ start text wrote. wrote-front start _ _ text _ wrote c.in_err-put_all.ensures.err)
 
 pub returns-clause-ok : goal.returns-clause-ok
-returns-clause-ok g c =
-    rw (← c.self.view_is) (λ start text wrote. wrote-flushed start _ _ text _ wrote c.in_ok-put_all.ensures.ok)
+returns-clause-ok g c = rw (← c.self.view_is) (λ start text wrote. wrote-flushed start _ _ text _ wrote c.in_ok-put_all.ensures.ok)
