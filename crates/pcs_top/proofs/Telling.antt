@@ -19,7 +19,7 @@ use Rattle.pcs_receive.proofs.Taking.{drained-left}
 use Rattle.pcs_drive.specs.CaptureCommand.{BeatsText}
 use Rattle.pcs_drive.specs.Writing.{Wrote}
 use Rattle.pcs_drive.proofs.WritingLemmas.{front-more}
-use Rattle.pcs_top.specs.EventTexts.{is_alignment, has_alignment, EventText, capture, listening, Meaning, Grows, HasTold, TellsEvent, BreaksAtEvent, hearing, IsListening, HasBegun}
+use Rattle.pcs_top.specs.EventTexts.{is_alignment, has_alignment, EventText, capture, listening, Meaning, Grows, HasTold, TellsEvent, BreaksAtEvent, hearing, IsListening, IsTelling, HasBegun}
 
 pub one-more : (es : List Event) (n : ℕ) (e : Event) → slice_get es n ≡ Some e → take (n + 1) es ≡ take n es ++ e ∷ []
 one-more es n e at = ap (λ k. take k es) (add-one n) ∙ next es n e at
@@ -84,25 +84,12 @@ module _ {T : Type 0} (Keeps : Meaning T) where
         aligned_yet = no-alignment ∙ sym (ap has_alignment none);
       }
 
-  -- Some events of these beats were given and told.
-  pub record IsTelling (x : State) (teller : T) (aligned : Bool) (text : BeatsText) (beats : List (List ℕ)) (start held : Option (List ℕ)) (pending : List ℕ) : Type 0 where
-    pub told : EventText
-    pub columns : Bool
-    pub period : ℕ
-    pub skew : ℕ
-    pub count : ℕ
-    pub is : text ≡ listening told columns period skew
-    pub stands : Stands x (hearing columns period skew beats count)
-    pub within : count ≤ length (events_by columns (capture period beats) skew)
-    pub aligned_yet : aligned ≡ has_alignment (take count (events_by columns (capture period beats) skew))
-    pub put : HasTold Keeps teller told (take count (events_by columns (capture period beats) skew)) start held pending
-
   -- a beat comes behind those whose events were all told
   pub telling-start : (old new : State) (beat : List ℕ) (teller : T) (aligned : Bool) (text : BeatsText) (beats : List (List ℕ)) (start held : Option (List ℕ)) (pending : List ℕ)
       (header-text : List ℕ) → (l : IsListening Keeps old teller aligned text beats)
       → header-text ≡ l.told.so_far (events_by l.columns (capture l.period beats) l.skew) → Wrote start held header-text pending
       → ((h : Hearing) → Stands old h → Stands new (with_beat h beat))
-      → IsTelling new teller aligned text (beats ++ beat ∷ []) start held pending
+      → IsTelling Keeps new teller aligned text (beats ++ beat ∷ []) start held pending
   telling-start old new beat teller aligned text beats start held pending header-text l same wrote takes =
       let es = events_by l.columns (capture l.period beats) l.skew in
       let (rest, is) = more-events l.columns (capture l.period beats) (beat ∷ []) l.skew in
@@ -124,7 +111,7 @@ module _ {T : Type 0} (Keeps : Meaning T) where
       }
 
   module _ (old new : State) (teller : T) (event : Answer) (aligned : Bool) (text : BeatsText) (beats : List (List ℕ)) (start held : Option (List ℕ)) (pending : List ℕ)
-      (t : IsTelling old teller aligned text beats start held pending)
+      (t : IsTelling Keeps old teller aligned text beats start held pending)
       (answers : (h : Hearing) → Stands old h → Answers (Some event) (next_event h))
       (stands : (h : Hearing) → Stands old h → Stands new (with_event h)) where
     abbrev es : List Event
@@ -152,7 +139,7 @@ module _ {T : Type 0} (Keeps : Meaning T) where
     pub telling-next : (teller_now : T) (aligned_now : Bool) (held_now : Option (List ℕ)) (pending_now : List ℕ)
         → ((h : Hearing) (e : Event) → Stands new h → IsAnswer event e → last_event h ≡ Some e → TellsEvent Keeps teller teller_now e held pending held_now pending_now)
         → ((e : Event) → IsAnswer event e → aligned_now ≡ (aligned || is_alignment e))
-        → IsTelling new teller_now aligned_now text beats start held_now pending_now
+        → IsTelling Keeps new teller_now aligned_now text beats start held_now pending_now
     telling-next teller_now aligned_now held_now pending_now put notes =
         let e = given.0 in
         record {
@@ -183,7 +170,7 @@ module _ {T : Type 0} (Keeps : Meaning T) where
 
   -- no event is left
   pub telling-all : (old new : State) (teller : T) (aligned : Bool) (text : BeatsText) (beats : List (List ℕ)) (start held : Option (List ℕ)) (pending : List ℕ)
-      → IsTelling old teller aligned text beats start held pending
+      → IsTelling Keeps old teller aligned text beats start held pending
       → ((h : Hearing) → Stands old h → Answers None (next_event h)) → ((h : Hearing) → Stands old h → Stands new h)
       → IsListening Keeps new teller aligned text beats
   unfolding Answers next_event events_of
@@ -207,7 +194,7 @@ module _ {T : Type 0} (Keeps : Meaning T) where
 
   -- all text is put then
   pub telling-wrote : (old : State) (teller : T) (aligned : Bool) (text : BeatsText) (beats : List (List ℕ)) (start held : Option (List ℕ)) (pending : List ℕ)
-      → IsTelling old teller aligned text beats start held pending
+      → IsTelling Keeps old teller aligned text beats start held pending
       → ((h : Hearing) → Stands old h → Answers None (next_event h)) → Wrote start held (text.so_far beats) pending
   unfolding Answers next_event events_of
   telling-wrote old teller aligned text beats start held pending t answers =

@@ -1,6 +1,6 @@
 -- What a command makes of the events of a receiver, one after the other. `Keeps` is the teller's own meaning: it makes this text, and stands
 -- for these events.
-use Rattle.std.specs.Prelude.{◌≡◌, ℕ, Bool, true, false, List, [], ◌∷◌, ◌++◌, length, Option}
+use Rattle.std.specs.Prelude.{◌≡◌, ℕ, ◌≤◌, Bool, true, false, List, [], ◌∷◌, ◌++◌, length, take, Option}
 use Rattle.std.specs.List.{list_any}
 use Rattle.pcs_bits.specs.Captures.{Capture}
 use Rattle.pcs_io.specs.Octets.{AppendsFront}
@@ -88,6 +88,20 @@ pub record IsListening {T : Type 0} (Keeps : Meaning T) (x : State) (teller : T)
   pub keeps : Keeps teller told (events_by columns (capture period beats) skew)
   pub grows : Grows told
   pub aligned_yet : aligned ≡ has_alignment (events_by columns (capture period beats) skew)
+
+-- Some events of these beats were given and told.
+pub record IsTelling {T : Type 0} (Keeps : Meaning T) (x : State) (teller : T) (aligned : Bool) (text : BeatsText) (beats : List (List ℕ))
+    (start held : Option (List ℕ)) (pending : List ℕ) : Type 0 where
+  pub told : EventText
+  pub columns : Bool
+  pub period : ℕ
+  pub skew : ℕ
+  pub count : ℕ
+  pub is : text ≡ listening told columns period skew
+  pub stands : Stands x (hearing columns period skew beats count)
+  pub within : count ≤ length (events_by columns (capture period beats) skew)
+  pub aligned_yet : aligned ≡ has_alignment (take count (events_by columns (capture period beats) skew))
+  pub put : HasTold Keeps teller told (take count (events_by columns (capture period beats) skew)) start held pending
 
 -- A receiver was opened, and had no other call.
 pub record HasBegun (x : State) (period skew : ℕ) (columns : Bool) : Type 0 where

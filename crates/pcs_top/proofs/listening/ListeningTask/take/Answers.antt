@@ -1,59 +1,8 @@
-use Rattle.std.proofs.Common.{[], ◌∷◌, ◌++◌, ap, refl, ◌∙◌, arith}
-use Rattle.std.proofs.lemmas.Result.{err_from_is_err_and}
-use Rattle.pcs_receive.specs.State.{left_count}
+use Rattle.std.proofs.Common.{[], ◌∷◌, ◌++◌, ap, arith}
+use Rattle.std.proofs.lemmas.Result.{on_ok_weaker, on_err_weaker}
 use Rattle.pcs_drive.specs.CaptureCommand.{BeatsText}
-use Rattle.pcs_receive.specs.declared.event.Event.TheVariants as event
-use Rattle.pcs_top.proofs.Telling.{aligned-by, telling-start, telling-next, telling-failed, telling-all, telling-wrote}
+use Rattle.pcs_top.proofs.Telling.{telling-start, telling-all, telling-wrote}
 use Rattle.pcs_top.proofs.listening.ListeningTask.take.Goals as goal
-
-pub loop-event-init : goal.loop-event-init
-loop-event-init g c = record {
-  telling = λ text beats start l wrote.
-      telling-start g.T.Teller.Keeps _ _ c.args.beat _ _ text beats start _ _ (text.so_far beats) l
-      (ap (λ (t : BeatsText). t.so_far beats) l.is) wrote c.take.ensures.stands;
-  weight = omega (arith, c.requires.ready.1, c.has_few_left.ensures, c.take.ensures.beats);
-  beats = c.take.ensures.beats;
-  later = omega arith;
-}
-
-pub loop-column-init : goal.loop-column-init
-loop-column-init g c =
-    let answer = rw c.in-Some.is at c.next.ensures.answer in
-    let some = rw c.in-Some.is at c.next.ensures.some in
-    let fewer = rw c.in-Some.is at c.next.ensures.fewer in
-    record {
-      telling = λ text beats start l wrote.
-          telling-next g.T.Teller.Keeps _ _ _ c.in-Some.event _ text (beats ++ c.args.beat ∷ []) start _ _
-          (c.loop-event.invariant.telling text beats start l wrote) answer (some refl) _ _ _ _
-          c.in_ok-tell.ensures.ok c.aligned_after-self.ensures;
-      weight = omega (arith, c.loop-event.invariant.weight, c.tell.ensures.weight, fewer refl, ap (λ a. a.beats) c.next.ensures.same);
-      beats = ap (λ a. a.beats) c.next.ensures.same ∙ c.loop-event.invariant.beats;
-      later = omega (arith, c.loop-event.invariant.later, c.tell.ensures.cause.later);
-      fewer = omega arith;
-    }
-
-pub loop-column-preserved : goal.loop-column-preserved
-loop-column-preserved g c =
-    let column = c.in-Some-next_column.column in
-    let answer = rw c.in-Some-next_column.is at c.next_column.ensures.answer in
-    let some = rw c.in-Some-next_column.is at c.next_column.ensures.some in
-    let fewer = rw c.in-Some-next_column.is at c.next_column.ensures.fewer in
-    record {
-      telling = λ text beats start l wrote.
-          telling-next g.T.Teller.Keeps _ _ _ (event.Column column) _ text (beats ++ c.args.beat ∷ []) start _ _
-          (c.loop-column.invariant.telling text beats start l wrote) answer (some refl) _ _ _ _
-          c.in_ok-tell_column.ensures.ok (λ e is. (aligned-by (event.Column column) e _ is).1 refl);
-      weight = omega (arith, c.loop-column.invariant.weight, c.tell_column.ensures.weight, fewer refl, ap (λ a. a.beats) c.next_column.ensures.same);
-      beats = ap (λ a. a.beats) c.next_column.ensures.same ∙ c.loop-column.invariant.beats;
-      later = omega (arith, c.loop-column.invariant.later, c.tell_column.ensures.cause.later);
-      fewer = omega (arith, c.loop-column.invariant.fewer, fewer refl);
-    }
-
-pub loop-event-smaller : goal.loop-event-smaller
-loop-event-smaller g c =
-    let fewer = rw c.in-Some.is at c.next.ensures.fewer in
-    let none = rw c.in_default-next_column.is at c.next_column.ensures.none in
-    omega (arith, fewer refl, c.loop-column.invariant.fewer, ap left_count none)
 
 pub returns-then-is_drained-clause-ok : goal.returns-then-is_drained-clause-ok
 returns-then-is_drained-clause-ok g c = λ text beats start put.
@@ -66,34 +15,17 @@ returns-then-is_drained-clause-ok g c = λ text beats start put.
       wrote = telling-wrote g.T.Teller.Keeps _ _ _ text (beats ++ c.args.beat ∷ []) start _ _ t answer;
     }
 
-pub returns-in_err-tell-clause-err : goal.returns-in_err-tell-clause-err
-returns-in_err-tell-clause-err g c =
-    let exit = err_from_is_err_and c.from_residual.result c.from_residual.ensures.1 in
-    let answer = rw c.in-Some.is at c.next.ensures.answer in
-    let some = rw c.in-Some.is at c.next.ensures.some in
-    rw exit.1 (λ text beats start put.
-    let t = c.loop-event.invariant.telling text beats start put.keeps put.wrote in
-    telling-failed g.T.Teller.Keeps _ _ _ c.in-Some.event _ text (beats ++ c.args.beat ∷ []) start _ _ t answer (some refl)
-    _ _ (ap (λ (x : BeatsText). x.so_far (beats ++ c.args.beat ∷ [])) t.is) c.in_err-tell.ensures.err)
-
-pub returns-in_err-tell_column-clause-err : goal.returns-in_err-tell_column-clause-err
-returns-in_err-tell_column-clause-err g c =
-    let column = c.in-Some-next_column.column in
-    let exit = err_from_is_err_and c.from_residual-in_err-tell_column.result c.from_residual-in_err-tell_column.ensures.1 in
-    let answer = rw c.in-Some-next_column.is at c.next_column.ensures.answer in
-    let some = rw c.in-Some-next_column.is at c.next_column.ensures.some in
-    rw exit.1 (λ text beats start put.
-    let t = c.loop-column.invariant.telling text beats start put.keeps put.wrote in
-    telling-failed g.T.Teller.Keeps _ _ _ (event.Column column) _ text (beats ++ c.args.beat ∷ []) start _ _ t answer (some refl)
-    _ _ (ap (λ (x : BeatsText). x.so_far (beats ++ c.args.beat ∷ [])) t.is) c.in_err-tell_column.ensures.err)
+pub tell_events-requires-clause-ready : goal.tell_events-requires-clause-ready
+tell_events-requires-clause-ready g c = omega (arith, c.requires.ready.1, c.has_few_left.ensures, c.take.ensures.beats)
 
 pub returns-clause-ok : goal.returns-clause-ok
-returns-clause-ok g c =
-    let answer = rw c.in_default.is at c.next.ensures.answer in
-    let none = rw c.in_default.is at c.next.ensures.none in λ text beats start put.
-    let t = c.loop-event.invariant.telling text beats start put.keeps put.wrote in
-    record {
-      keeps = telling-all g.T.Teller.Keeps _ _ _ _ text (beats ++ c.args.beat ∷ []) start _ _ t answer none;
-      grows = put.grows;
-      wrote = telling-wrote g.T.Teller.Keeps _ _ _ text (beats ++ c.args.beat ∷ []) start _ _ t answer;
-    }
+returns-clause-ok g c = on_ok_weaker c.tell_events.result (λ tells text beats start put.
+    let t = telling-start g.T.Teller.Keeps _ _ c.args.beat _ _ text beats start _ _ (text.so_far beats) put.keeps
+    (ap (λ (t : BeatsText). t.so_far beats) put.keeps.is) put.wrote c.take.ensures.stands in
+    let told = tells text (beats ++ c.args.beat ∷ []) start t in
+    record { keeps = told.0; grows = put.grows; wrote = told.1 }) c.tell_events.ensures.ok
+
+pub returns-clause-err : goal.returns-clause-err
+returns-clause-err g c = on_err_weaker c.tell_events.result (λ breaks text beats start put.
+    breaks text (beats ++ c.args.beat ∷ []) start (telling-start g.T.Teller.Keeps _ _ c.args.beat _ _ text beats start _ _ (text.so_far beats) put.keeps
+    (ap (λ (t : BeatsText). t.so_far beats) put.keeps.is) put.wrote c.take.ensures.stands)) c.tell_events.ensures.err
