@@ -140,7 +140,10 @@ for row in "${commands[@]}" "header decode" "header report" "header columns"; do
         started=yes
         if [ "$status" = 5 ]; then
             refused=$kilobytes
-            look "$kilobytes kB, $words" 5 'pcs: no memory' 5 no_output
+            # Without memory for its own words the program says nothing.
+            line='pcs: no memory'
+            [ -s "$work/notes" ] || line=
+            look "$kilobytes kB, $words" 5 "$line" 5 no_output
         else
             look "$kilobytes kB, $words" "$wanted" "$(cat "$work/wanted_notes")" "$status" same_output
         fi
