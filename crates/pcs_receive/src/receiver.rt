@@ -5,7 +5,7 @@ ghost use Rattle.mac_columns.specs.Gathering.{Stands as GatherStands, HasFrame a
 ghost use Rattle.lane_deskew.specs.Bound.{bound};
 ghost use Rattle.lane_deskew.specs.State.{held_of, room_of};
 ghost use Rattle.pcs_receive.specs.Hearings.{Hearing, wants_columns, begun, with_beat, with_event, next_event, last_event, Answers};
-ghost use Rattle.pcs_receive.specs.Events.{frame};
+ghost use Rattle.pcs_receive.specs.Events.{frame, column as told_column};
 ghost use Rattle.pcs_receive.specs.State.{Stands, IsDrained, HasFrame, left_count};
 ghost use Rattle.pcs_receive.specs.Steps.{TakesPair, TakesEvent, TakesLoss, Searches, Moves, lead_behind};
 
@@ -71,6 +71,7 @@ impl Model for Receiver {
       lead = r.lead;
       rest = drop r.given r.columns.items;
       lost_at = r.lost;
+      columns_room = vec_capacity r.columns;
     } };
 
     ghost invariant = { λ r. (1 ≤ r.period) × (r.number ≤ r.deskew.beats) × (r.deskew.beats ≤ 2 ^ 40) × (r.bad ≤ 2)
@@ -115,6 +116,7 @@ impl Receiver {
         ensures stands { (h : Hearing) → Stands self.old h → Stands self.new (with_beat h beat) }
         ensures beats { self.new.aligner.beats ≡ self.old.aligner.beats + 1 }
         ensures room { room_of self.new.aligner ≡ room_of self.old.aligner }
+        ensures memory { self.new.columns_room ≡ self.old.columns_room }
     {
         if self.deskew.wait(beat) {
             self.framed = false;
@@ -139,6 +141,7 @@ impl Receiver {
         ensures stands { (h : Hearing) → Stands self.old h → Stands self.new (with_beat h beat) }
         ensures beats { self.new.aligner.beats ≡ self.old.aligner.beats + 1 }
         ensures room { room_of self.new.aligner ≡ room_of self.old.aligner }
+        ensures memory { self.new.columns_room ≡ self.old.columns_room }
     {
         self.framed = false;
         match self.deskew.take(beat) {
@@ -196,6 +199,7 @@ impl Receiver {
         ensures fewer { IsSome result → left_count self.new < left_count self.old }
         ensures frame { (result ≡ Some Event.Frame) → HasFrame self.new }
         ensures same { self.new.aligner ≡ self.old.aligner }
+        ensures memory { self.new.columns_room ≡ self.old.columns_room }
     {
         if self.is_drained() {
             return None;
@@ -219,8 +223,10 @@ impl Receiver {
         ensures answer { IfSome result (λ column. (h : Hearing) → Stands self.old h → Answers (Some (Event.Column column)) (next_event h)) }
         ensures some { IsSome result → (h : Hearing) → Stands self.old h → Stands self.new (with_event h) }
         ensures none { IfNone result (self.new ≡ self.old) }
+        ensures when { IfNone result ((h : Hearing) (c : ColumnValue) → Stands self.old h → ¬ (next_event h ≡ Some (told_column c))) }
         ensures fewer { IsSome result → left_count self.new < left_count self.old }
         ensures same { self.new.aligner ≡ self.old.aligner }
+        ensures memory { self.new.columns_room ≡ self.old.columns_room }
     {
         if !is_nothing(&self.lead) || is_past(self.given, &self.columns) {
             return None;
