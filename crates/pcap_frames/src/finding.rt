@@ -38,7 +38,7 @@ pub fn read_header<S: Source>(
     ensures taken { input.new.taken ≤ input.new.limit }
     ensures limit { input.new.limit ≡ input.old.limit }
     ensures unused { (n : ℕ) → n + length input.old.unused ≤ input.old.taken → n + length input.new.unused ≤ input.new.taken }
-    ensures room { vec_capacity piece.old ≤ vec_capacity piece.new }
+    ensures room { vec_capacity piece.new ≡ vec_capacity piece.old }
     ensures later { S.faults source.old ≤ S.faults source.new }
     ensures read { IsErrOf result PcapFault.Read → Rose (S.faults source.old) (S.faults source.new) }
 {
@@ -92,7 +92,7 @@ pub fn read_record<S: Source>(
     requires records { records + length input.old.unused ≤ input.old.taken }
     ensures finds { FindsRecord (record_at order short) records input.old input.new (S.left source.old) (S.left source.new) (S.ended source.new) piece.new.items result }
     ensures taken { input.new.taken ≤ input.new.limit }
-    ensures room { vec_capacity piece.old ≤ vec_capacity piece.new }
+    ensures room { vec_capacity piece.new ≡ vec_capacity piece.old }
     ensures later { S.faults source.old ≤ S.faults source.new }
     ensures read { IsErrOf result PcapFault.Read → Rose (S.faults source.old) (S.faults source.new) }
 {
@@ -131,7 +131,7 @@ fn find_record<S: Source>(
         (Finds (record_at order short) input.old input.new (S.left source.old) (S.left source.new) (S.ended source.new) piece.new.items)
         (λ _. FailsOpen (record_at order short) input.old input.new (S.left source.old) (S.left source.new)) }
     ensures taken { input.new.taken ≤ input.new.limit }
-    ensures room { vec_capacity piece.old ≤ vec_capacity piece.new }
+    ensures room { vec_capacity piece.new ≡ vec_capacity piece.old }
     ensures cause { HasCause (S.faults source.old) (S.faults source.new) result }
 {
     match gather(input, piece, RECORD_HEADER, source)? {

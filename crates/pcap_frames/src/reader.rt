@@ -36,7 +36,7 @@ impl Model for PcapReader {
 
     ghost Value = { PcapState };
 
-    ghost view = { λ s. record { buffer = s.input; piece = s.piece.items; short = s.short; order = s.order; records = s.records; standing = s.standing } };
+    ghost view = { λ s. record { buffer = s.input; piece = s.piece.items; short = s.short; order = s.order; records = s.records; standing = s.standing; room = vec_capacity s.piece } };
 
     ghost invariant = { λ s. (16384 ≤ vec_capacity s.piece) × (s.records + length s.input.unused ≤ s.input.taken) × (s.input.taken ≤ s.input.limit) × (s.input.limit < 2 ^ 64) };
 }
@@ -74,6 +74,7 @@ impl PcapReader {
             × HeaderAnswers h.limit got (S.left source.old) (S.left source.new) (S.ended source.new) result
             × Stands self.new (header_told h got result) }
         ensures order { IfOk result (λ _. IsSome self.new.order) }
+        ensures room { self.new.room ≡ self.old.room }
         ensures later { S.faults source.old ≤ S.faults source.new }
         ensures read { IsErrOf result PcapFault.Read → Rose (S.faults source.old) (S.faults source.new) }
     {
