@@ -1,5 +1,5 @@
 // A capture becomes a report: a line for each event, and at the end a line for each watcher.
-ghost use Rattle.std.specs.Prelude.{◌≡◌, List, map};
+ghost use Rattle.std.specs.Prelude.{◌≡◌, List, map, vec_capacity};
 ghost use Rattle.pcs_watch.specs.Watching.{seen as watched, stays, told, told_all};
 ghost use Rattle.pcs_receive.specs.Events.{Event as EventValue};
 ghost use Rattle.pcs_receive.specs.Hearings.{IsAnswer};
@@ -105,6 +105,7 @@ fn tell_event(watchers: &mut Vec<Box<dyn Watcher>>, event: &Event)
 fn tell_all(watchers: &mut Vec<Box<dyn Watcher>>, report: &Report)
     ensures told { map (watched label tally after leaves) watchers.new.items
         ≡ told_all report.now (map (watched label tally after leaves) watchers.old.items) }
+    ensures room { vec_capacity watchers.new ≡ vec_capacity watchers.old }
 {
     watchers.retain_mut(
         |watcher: &mut Box<dyn Watcher>| -> bool

@@ -1,5 +1,5 @@
 // What is told of each report.
-ghost use Rattle.std.specs.Prelude.{◌≡◌, ◌<◌, ◌^◌, ◌↔◌, ℕ, Bool, true, List, length, map, slice_get};
+ghost use Rattle.std.specs.Prelude.{◌≡◌, ◌<◌, ◌^◌, ◌↔◌, ℕ, Bool, true, List, length, map, slice_get, vec_capacity};
 ghost use Rattle.pcs_watch.specs.declared.Report.{Report};
 ghost use Rattle.pcs_watch.specs.Watching.{seen, stays, told, told_all};
 
@@ -56,6 +56,7 @@ fn tell_one(watcher: &mut Box<dyn Watcher>, report: &Report) -> bool
 pub fn tell_all(watchers: &mut Vec<Box<dyn Watcher>>, report: &Report)
     ensures told { map (seen label tally after leaves) watchers.new.items
         ≡ told_all report.now (map (seen label tally after leaves) watchers.old.items) }
+    ensures room { vec_capacity watchers.new ≡ vec_capacity watchers.old }
 {
     watchers.retain_mut(
         |watcher: &mut Box<dyn Watcher>| -> bool
