@@ -148,4 +148,4 @@ pub headline_of_phased : HeadlineOfPhased 15
 headline_of_phased mask columns c d image skew octets is room has small limit lock =
     let phased = phased_is_an_image mask c d (carried d.period columns) image is room has in
     headline_within 15 (omega arith) columns d (phased_image mask image) skew
-    (record { octets = octets; stands = phased.stands; within = omega (arith, phased.skew, small); limit = limit }) lock
+    (record { octets = octets; stands = phased.stands; within = small; limit = limit }) lock

@@ -52,13 +52,16 @@ same-frames : (frames : List (List ℕ)) → are_same frames frames ≡ true
 same-frames [] = refl
 same-frames (frame ∷ frames) = ap (λ b. b && are_same frames frames) (same-octets frame) ∙ same-frames frames
 
-pub same_frames : SameFrames
-same_frames [] [] e = refl
-same_frames [] (made ∷ frames) e = let bad : false ≡ true = e in absurd cc
-same_frames (given ∷ back) [] e = let bad : false ≡ true = e in absurd cc
-same_frames (given ∷ back) (made ∷ frames) e =
+then-same : (back frames : List (List ℕ)) → are_same back frames ≡ true → back ≡ frames
+then-same [] [] e = refl
+then-same [] (made ∷ frames) e = let bad : false ≡ true = e in absurd cc
+then-same (given ∷ back) [] e = let bad : false ≡ true = e in absurd cc
+then-same (given ∷ back) (made ∷ frames) e =
     let both = and_parts (bytes_eq given made) (are_same back frames) e in
-    ap₂ (λ x xs. x ∷ xs) (same_octets given made both.0) (same_frames back frames both.1)
+    ap₂ (λ x xs. x ∷ xs) (same_octets given made both.0) (then-same back frames both.1)
+
+pub same_frames : SameFrames
+same_frames back frames = (then-same back frames, λ e. ap (are_same back) (sym e) ∙ same-frames back)
 
 -- ---- the corrected symbols of a pair
 outcomes-none : (outs : List Outcome) → sum_by corrected_of (map event_of_outcome outs) ≡ 0

@@ -7,7 +7,7 @@
 --     TrialComesBack           where the capture locks truly, all frames come back, and each wrong symbol is told as corrected
 --     SameFrames               what is asked of the frames given
 --     TrialTells               the summary of each trial, without a capture
-use Rattle.std.specs.Prelude.{◌≡◌, ℕ, ◌-◌, ◌*◌, ◌<◌, ◌≤◌, true, List, length, sum_by}
+use Rattle.std.specs.Prelude.{◌≡◌, ◌↔◌, ℕ, ◌-◌, ◌*◌, ◌<◌, ◌≤◌, true, List, length, sum_by}
 use Rattle.pcs_receive.specs.Images.{Image, IsImage, skew_of, HasTrueLock, wrong_a, wrong_b}
 use Rattle.pcs_receive.specs.Events.{good}
 use Rattle.rate_match.specs.Kept.{HasLegalGaps}
@@ -82,4 +82,4 @@ TrialTells =
 
 -- frames that are found to be the same are the same
 abbrev pub SameFrames : Type 0
-SameFrames = (back frames : List (List ℕ)) → are_same back frames ≡ true → back ≡ frames
+SameFrames = (back frames : List (List ℕ)) → (are_same back frames ≡ true) ↔ (back ≡ frames)
