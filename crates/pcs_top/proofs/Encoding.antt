@@ -11,7 +11,7 @@ use Rattle.pcs_io.specs.Histories.{ReaderState, History, Stands, Nexts, told, op
 use Rattle.pcs_io.specs.declared.fault.InFault.{InFault}
 use Rattle.pcs_io.specs.declared.fault.InFault.TheVariants as in_fault
 use Rattle.pcs_io.specs.declared.source.Failed.{Failed}
-use Rattle.pcs_io.specs.Grammars.{Begins}
+use Rattle.pcs_io.specs.Grammars.{Begins, IsNear}
 use Rattle.pcs_io.proofs.Told.{consumes-none, consumes-append, takes-after, takes-consumed}
 use Rattle.pcs_io.specs.declared.fault.Kind.{Kind}
 use Rattle.pcs_drive.specs.LineCommand.{IsRefused}
@@ -220,9 +220,10 @@ module _ (o : EncodeOptions) where
               rose,
               waits,
               inl (
-                t.1.1,
+                new.buffer.unused,
                 took-more seen mid c.octets t.0 c.took t.1.0,
-                t.1.2,
+                t.2.unused,
+                fresh-near frame_line_at new.buffer.unused n.within,
                 columns_of_lines c.answered ++ own,
                 left,
                 one-line c.answered line ∙ ap (λ xs. columns_of_lines c.answered ++ xs) parts ∙ sym (append_assoc (columns_of_lines c.answered) own left),
@@ -250,10 +251,10 @@ module _ (o : EncodeOptions) where
 
       -- a write failed behind the lines
       behind : (octets rest : List ℕ) → WriteFailed seen → HasWaited o seen → TakesWhereTold seen.left_before seen.left_after octets
-          → Begins frame_line_at octets c.answered rest
+          → Begins frame_line_at octets c.answered rest → IsNear frame_line_at rest
           → AppendsFront seen.held_before seen.held_after (begun_text c.answered) → Encoded o seen WriteFault
-      behind octets rest rose waits took begins front =
-          (octets, c.answered, rose, waits, inl (rest, took, begins, columns_of_lines c.answered, [], sym (append-nil (columns_of_lines c.answered)), put-so-far.legal, front))
+      behind octets rest rose waits took begins near front =
+          (octets, c.answered, rose, waits, inl (rest, took, begins, near, columns_of_lines c.answered, [], sym (append-nil (columns_of_lines c.answered)), put-so-far.legal, front))
 
       pub encoded-end-failed : Nexts frame_line_at old new mid seen.left_after seen.ended (Ok None) → WriteFailed seen → HasWaited o seen
           → ((cs : List Column) → HasPut sender o cs seen.held_before held pending → AppendsFront seen.held_before seen.held_after (sent_octets o cs)) → Encoded o seen WriteFault
@@ -271,7 +272,7 @@ module _ (o : EncodeOptions) where
       encoded-fault-failed fault n rose waits failed =
           let t = tells frame_line_at begun_text (HasLines sender) old new seen.left_before mid seen.left_after seen.held_before held pending seen.ended (Err fault) c n in
           let after = behind-fault frame_line_at (reading c.octets c.answered) t.0 mid seen.left_after seen.ended fault t.1 in
-          behind (c.octets ++ t.0) after.0 rose waits (takes-after seen.left_before mid seen.left_after c.octets t.0 c.took after.1) after.2
+          behind (c.octets ++ t.0) after.0 rose waits (takes-after seen.left_before mid seen.left_after c.octets t.0 c.took after.1) after.2 after.3
           (failed seen.held_before (begun_text c.answered) c.wrote)
 
     -- before the next line is read
@@ -287,6 +288,7 @@ module _ (o : EncodeOptions) where
         lines.buffer.unused,
         takes-consumed seen.left_before seen.left_after c.octets c.took,
         c.stands.unused,
+        c.near,
         columns_of_lines c.answered,
         [],
         sym (append-nil (columns_of_lines c.answered)),
@@ -343,6 +345,7 @@ module _ (o : EncodeOptions) where
       [],
       subst (λ left. TakesWhereTold seen.left_before left []) (sym same) (takes-consumed seen.left_before seen.left_before [] (consumes-none seen.left_before)),
       refl,
+      fresh-near frame_line_at [] (omega arith),
       [],
       [],
       no-lines,

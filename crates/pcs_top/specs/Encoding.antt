@@ -3,7 +3,7 @@ use Rattle.std.specs.Prelude.{◌≡◌, ℕ, ◌+◌, ◌^◌, ◌<◌, ◌≤�
 use Rattle.mac_columns.specs.declared.column.Column.{Column}
 use Rattle.rate_match.specs.Kept.{debt, HasLegalGaps}
 use Rattle.pcs_io.specs.Octets.{AppendsFront}
-use Rattle.pcs_io.specs.Grammars.{Begins, AreLines, EndOpen}
+use Rattle.pcs_io.specs.Grammars.{Begins, AreLines, EndOpen, IsNear}
 use Rattle.pcs_io.specs.FrameLines.{FrameLine, frame_line_at}
 use Rattle.pcs_io.specs.declared.source.Failed.{Failed}
 use Rattle.pcs_drive.specs.Seen.{Seen, Took, TookAll, Written, ReadFailed, WriteFailed}
@@ -35,7 +35,7 @@ HasWaited options seen = IfSome seen.held_before (λ before. IfSome seen.held_af
 -- A write failed: a front is written of what a front of the columns had begun, or of the whole transmission where the input has ended.
 abbrev pub BrokeOff : EncodeOptions → Seen → List ℕ → List FrameLine → Type 0
 BrokeOff options seen octets lines =
-    ((rest : List ℕ) × Took seen octets × Begins frame_line_at octets lines rest
+    ((rest : List ℕ) × Took seen octets × Begins frame_line_at octets lines rest × IsNear frame_line_at rest
     × (columns left : List Column) × (columns_of_lines lines ≡ columns ++ left) × HasLegalGaps options.period columns
     × AppendsFront seen.held_before seen.held_after (begun_octets options columns))
     ⊎ (TookAll seen octets × (length octets < 2 ^ 40) × AreLines frame_line_at octets lines × HasLegalGaps options.period (columns_of_lines lines)
