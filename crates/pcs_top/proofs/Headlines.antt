@@ -36,7 +36,7 @@ use Rattle.pcs_top.specs.Notes.{Heard}
 use Rattle.pcs_top.specs.Statuses.{ByOutcome, status_of}
 use Rattle.pcs_top.specs.Texts.{frame_text}
 use Rattle.pcs_top.specs.Top.{Performs, Runs}
-use Rattle.pcs_top.specs.Headlines.{HasWholeCapture, columns_sent, GivesNamedFrames, GivesUnmarkedFrames, BehindHeadline, OfDecode, Headline, AnyDamage, DecodeHeadline, DecodeAnyDamage}
+use Rattle.pcs_top.specs.Headlines.{HasWholeCapture, columns_sent, GivesNamedFrames, GivesUnmarkedFrames, GivesGoodFrames, BehindHeadline, OfDecode, Headline, AnyDamage, Complete, DecodeHeadline, DecodeAnyDamage}
 use Rattle.pcs_top.specs.declared.status.Status.{Status}
 use Rattle.pcs_top.proofs.Completeness.{noted}
 use Rattle.pcs_io.proofs.HeaderRanges.{header-ranged}
@@ -188,6 +188,10 @@ headline = behind-headline GivesNamedFrames named
 pub any_damage : (before : List ℕ) (limit : ℕ) (header : Header) (period skew : ℕ) (seen : Seen) (status : Status)
     → ByOutcome (FromBeats (good_text period skew) before limit header seen) status → AnyDamage before limit header period skew seen status
 any_damage = behind-headline GivesUnmarkedFrames unmarked
+
+pub complete : (before : List ℕ) (limit : ℕ) (header : Header) (period skew : ℕ) (seen : Seen) (status : Status)
+    → ByOutcome (FromBeats (good_text period skew) before limit header seen) status → Complete before limit header period skew seen status
+complete = behind-headline GivesGoodFrames (λ period skew beats seen status limit answered. answered)
 
 -- ---- the program
 of-decode : (G : Gives) → Follows G → (watchers : List Watched) (words : Result Command Refusal) (seen : Seen) (heard : Heard) (status : Status)

@@ -4,6 +4,7 @@
 --     DamagePremises      the beats are such an image, and each hunt is true
 --     GivesNamedFrames    with at most fifteen wrong symbols in a codeword, exactly the named frames are written
 --     GivesUnmarkedFrames whatever the damage, exactly the frames in unmarked wides are written
+--     GivesGoodFrames     of any beats, the good frames are written, and the run is done where the lanes were aligned
 use Rattle.std.specs.Prelude.{◌≡◌, ◌≢◌, ℕ, ◌^◌, ◌*◌, ◌<◌, ◌≤◌, List, [], ◌++◌, length, Some, Result, Ok}
 use Rattle.std.specs.List.{AllByRecursion, list_any}
 use Rattle.mac_columns.specs.declared.column.Column.{Column}
@@ -12,7 +13,7 @@ use Rattle.pcs_bits.specs.Captures.{Capture}
 use Rattle.pcs_send.specs.Transmission.{sent, sent_columns}
 use Rattle.lane_deskew.specs.declared.Order.{Order}
 use Rattle.lane_deskew.specs.Alignments.{align}
-use Rattle.pcs_receive.specs.Events.{events}
+use Rattle.pcs_receive.specs.Events.{events, good}
 use Rattle.pcs_receive.specs.Images.{Image, IsImage, skew_of, HasTrueLock}
 use Rattle.pcs_receive.specs.Headline.{AlignsAt, HasAtMostWrong, named_frames, hunt_places, IsTrueHunt, stands_in_alignment}
 use Rattle.pcs_io.specs.Faults.{Rose}
@@ -89,6 +90,13 @@ GivesUnmarkedFrames period skew beats seen status =
     → (status ≡ status_of (outcome_at_end 0 (has_alignment (events (capture period beats) skew 0))))
     × Written seen (frame_text (unmarked_frames (columns_sent period lead tail lines) (capture period beats) image skew))
 
+-- Of any beats, whether they are an image of something or not: the run is done where the lanes were aligned, and else not aligned, and
+-- exactly the good frames are written.
+abbrev pub GivesGoodFrames : ℕ → ℕ → List (List ℕ) → Seen → Status → Type 0
+GivesGoodFrames period skew beats seen status =
+    (status ≡ status_of (outcome_at_end 0 (has_alignment (events (capture period beats) skew 0))))
+    × Written seen (frame_text (good (capture period beats) skew))
+
 -- of a call behind the header, by the receiver's period and skew limit, which is less than half a period as every receiver's is
 abbrev pub BehindHeadline : (ℕ → ℕ → List (List ℕ) → Seen → Status → Type 0) → List ℕ → ℕ → Header → ℕ → ℕ → Seen → Status → Type 0
 BehindHeadline Gives before limit header period skew seen status =
@@ -106,6 +114,9 @@ Headline = BehindHeadline GivesNamedFrames
 
 abbrev pub AnyDamage : List ℕ → ℕ → Header → ℕ → ℕ → Seen → Status → Type 0
 AnyDamage = BehindHeadline GivesUnmarkedFrames
+
+abbrev pub Complete : List ℕ → ℕ → Header → ℕ → ℕ → Seen → Status → Type 0
+Complete = BehindHeadline GivesGoodFrames
 
 abbrev pub DecodeHeadline : Result Command Refusal → Seen → Heard → Status → Type 0
 DecodeHeadline = OfDecode GivesNamedFrames

@@ -7,7 +7,7 @@ ghost use Rattle.pcs_drive.specs.Seen.{seen};
 ghost use Rattle.pcs_drive.specs.CaptureCommand.{FromBeats, FromCapture, HasHeader};
 ghost use Rattle.pcs_top.specs.Decoding.{decoded, good_text};
 ghost use Rattle.pcs_top.specs.EventTexts.{HasBegun};
-ghost use Rattle.pcs_top.specs.Headlines.{Headline, AnyDamage};
+ghost use Rattle.pcs_top.specs.Headlines.{Headline, AnyDamage, Complete};
 ghost use Rattle.pcs_top.specs.Statuses.{ByOutcome};
 
 use crate::Status;
@@ -55,6 +55,9 @@ pub fn decode_opened<R: Source, W: Sink>(
         (seen R.left R.ended R.faults W.held W.faults source.old source.new sink.old sink.new) result }
     ensures any_damage { (h : History) (header : Header) (period skew : ℕ) → HasHeader beats.old h header → HasBegun receiver.old period skew false
         → AnyDamage h.octets h.limit header period skew
+        (seen R.left R.ended R.faults W.held W.faults source.old source.new sink.old sink.new) result }
+    ensures complete { (h : History) (header : Header) (period skew : ℕ) → HasHeader beats.old h header → HasBegun receiver.old period skew false
+        → Complete h.octets h.limit header period skew
         (seen R.left R.ended R.faults W.held W.faults source.old source.new sink.old sink.new) result }
 {
     let mut listening = Listening::new(receiver, FrameLines);

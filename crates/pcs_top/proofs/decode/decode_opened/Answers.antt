@@ -6,7 +6,7 @@ use Rattle.pcs_drive.specs.CaptureCommand.{HasHeader, FromBeats}
 use Rattle.pcs_top.specs.Decoding.{good_text}
 use Rattle.pcs_top.specs.EventTexts.{HasBegun, IsListening}
 use Rattle.pcs_top.specs.Statuses.{ByOutcome}
-use Rattle.pcs_top.proofs.Headlines.{headline, any_damage}
+use Rattle.pcs_top.proofs.Headlines.{headline, any_damage, complete}
 use Rattle.pcs_top.proofs.GoodFrames.{TellsFrames, good-start, good-grows, good-none}
 use Rattle.pcs_top.proofs.decode.decode_opened.Goals as goal
 
@@ -31,4 +31,5 @@ returns g c =
       answers = answers;
       headline = λ h header period skew has begun. headline h.octets h.limit header period skew around c.from.result (answers h header period skew has begun);
       any_damage = λ h header period skew has begun. any_damage h.octets h.limit header period skew around c.from.result (answers h header period skew has begun);
+      complete = λ h header period skew has begun. complete h.octets h.limit header period skew around c.from.result (answers h header period skew has begun);
     }
