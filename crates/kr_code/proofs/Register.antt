@@ -99,3 +99,30 @@ register_next register new message i m d long less em step h =
 pub rest_of_register : (register part : List Symbol) → IsShortRemainder register part → IsRest 14 14 (drop 18 register) part
 unfolding IsRest
 rest_of_register register part h = rest_behind_zeros 14 18 14 register part (omega (arith, h.long)) h.zeros h.values
+
+pub register_first_of : (start part : List Symbol) (z : Symbol) (n : ℕ) → start ≡ replicate 32 z → z ≡ zero_symbol → length part ≡ n
+    → IsShortRemainder start (drop (n - 0) part)
+register_first_of start part z n e ez long = subst (IsShortRemainder start) (sym (nothing_after part (n - 0) (omega (arith, long)))) (record {
+  long = full;
+  zeros = λ k less. at k (omega arith);
+  values = λ j less. zeros start (power gf alpha j) (λ k l. at k (omega (arith, full)))
+      ∙ sym (mul_zero gf laws (power gf (power gf alpha j) 32));
+})
+  where
+    full : length start ≡ 32
+    full = ap length e ∙ length-replicate {A = Symbol} 32 z
+
+    at : (k : ℕ) → k < 32 → get_or start k zero_symbol ≡ zero_symbol
+    at k less = ap (λ l. get_or l k zero_symbol) e ∙ get_or-replicate 32 k z zero_symbol less ∙ ez
+
+pub register_next_of : (register new part : List Symbol) (i n : ℕ) (m : Symbol) → length part ≡ n → i < n
+    → m ≡ get_or part (n - 1 - i) zero_symbol → ((part : List Symbol) → IsShortRemainder register part → IsShortRemainder new (m ∷ part))
+    → IsShortRemainder register (drop (n - i) part) → IsShortRemainder new (drop (n - (i + 1)) part)
+register_next_of register new part i n m long less em step h =
+    let at = n - 1 - i in
+    let up : n - i ≡ suc at = omega arith in
+    let down : n - (i + 1) ≡ at = omega arith in
+    subst (IsShortRemainder new)
+    (ap (λ s. s ∷ drop (n - i) part) em ∙ ap (λ k. get_or part at zero_symbol ∷ drop k part) up
+    ∙ sym (ap (λ k. drop k part) down ∙ drop-cons part at zero_symbol (omega (arith, long))))
+    (step (drop (n - i) part) h)
