@@ -2,6 +2,7 @@ pub mod Headers
 pub mod Told
 pub mod Pieces
 pub mod Decoding
+pub mod DigitGroups
 pub mod LineNumbers
 pub mod Progress
 pub mod GatherProgress
