@@ -2,6 +2,7 @@ pub mod WritingLemmas
 pub mod PuttingLong
 pub mod PuttingMore
 pub mod Copying
+pub mod LineDriving
 pub mod Driving
 pub mod OfKinds
 pub mod LevelsFront

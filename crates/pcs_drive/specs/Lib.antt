@@ -2,6 +2,7 @@ pub mod Outcomes
 pub mod Seen
 pub mod Writing
 pub mod LineCommand
+pub mod LineTasks
 pub mod CaptureCommand
 pub mod FileKinds
 pub mod Tasks

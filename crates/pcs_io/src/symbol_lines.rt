@@ -18,7 +18,7 @@ pub struct SymbolLine<'a> {
 /// a newline. It owns all the memory that it needs.
 #[derive(Drop)]
 pub struct SymbolLines {
-    reader: Reader<SymbolParser>,
+    pub reader: Reader<SymbolParser>,
 }
 
 impl Model for SymbolLines {

@@ -5,13 +5,13 @@ ghost use Rattle.pcs_io.specs.Histories.{Stands, opened};
 ghost use Rattle.pcs_io.specs.SymbolAnswers.{AreSymbols};
 ghost use Rattle.pcs_io.specs.SymbolLines.{symbol_line_at};
 ghost use Rattle.pcs_drive.specs.Seen.{seen};
-ghost use Rattle.pcs_drive.specs.LineCommand.{Converted, Converts, OrNoMemory};
+ghost use Rattle.pcs_drive.specs.LineCommand.{Converted, OrNoMemory};
 ghost use Rattle.pcs_drive.specs.Writing.{Puts, BreaksOffBefore};
 ghost use Rattle.pcs_late.specs.Kr.{answer_text, kr_text};
 
 use crate::kr_text::text_of;
-use pcs_drive::{LIMIT, Outcome, Output};
-use pcs_io::{Failed, Sink, Source, SymbolLines};
+use pcs_drive::{LIMIT, LineTask, Outcome, Output, drive_lines};
+use pcs_io::{Failed, Sink, Source, SymbolLines, SymbolParser};
 use std::alloc::Global;
 
 /// Reads symbol lines, and writes the codeword of each message and the codeword near each word.
@@ -36,38 +36,36 @@ pub fn kr_opened<R: Source, W: Sink>(
         (seen R.left R.ended R.faults W.held W.faults source.old source.new sink.old sink.new) result }
 {
     let mut output = Output::new();
-    match convert(lines, &mut output, source, sink) {
-        Ok(outcome) => outcome,
-        Err(Failed) => Outcome::WriteFault,
-    }
+    drive_lines(
+        &mut lines.reader,
+        &mut Answering,
+        &mut output,
+        source,
+        sink,
+    )
 }
 
-// Reads lines and gathers their text, which is written before the source is read again and at the
-// end. `Failed` comes where a write failed.
-fn convert<R: Source, W: Sink>(
-    lines: &mut SymbolLines,
-    output: &mut Output,
-    source: &mut R,
-    sink: &mut W,
-) -> Result<Outcome, Failed>
-    requires opened { Stands symbol_line_at lines.old (opened (2 ^ 40)) }
-    requires empty { output.old ≡ [] }
-    ensures { Converts symbol_line_at kr_text
-        (seen R.left R.ended R.faults W.held W.faults source.old source.new sink.old sink.new) result }
-{
-    loop {
-        output.release(sink, lines.holds_line())?;
-        match lines.next(source) {
-            Ok(Some(line)) => put_line(output, sink, line.symbols)?,
-            Ok(None) => {
-                output.flush(sink)?;
-                return Ok(Outcome::Done);
-            }
-            Err(fault) => {
-                output.flush(sink)?;
-                return Ok(Outcome::from(fault));
-            }
-        }
+// The answer to each line.
+#[derive(Drop)]
+struct Answering;
+
+impl LineTask<SymbolParser> for Answering {
+    ghost use Rattle.std.specs.Prelude.{⊤};
+    ghost use Rattle.pcs_drive.specs.LineTasks.{by_lines};
+    ghost use Rattle.pcs_io.specs.SymbolLines.{SymbolParserState};
+    ghost use Rattle.pcs_late.specs.Kr.{kr_text};
+
+    ghost text = { by_lines (λ (parser : SymbolParserState). parser.numbers) kr_text };
+
+    ghost Keeps = { λ x parsers. ⊤ };
+
+    fn put_line<W: Sink>(
+        &mut self,
+        parser: &SymbolParser,
+        output: &mut Output,
+        sink: &mut W,
+    ) -> Result<(), Failed> {
+        put_line(output, sink, parser.symbols())
     }
 }
 

@@ -5,13 +5,12 @@ ghost use Rattle.pcs_io.specs.Faults.{HasCause};
 ghost use Rattle.pcs_io.specs.Histories.{Stands, opened};
 ghost use Rattle.pcs_io.specs.TextLines.{text_line_at};
 ghost use Rattle.pcs_drive.specs.Seen.{seen};
-ghost use Rattle.pcs_drive.specs.LineCommand.{Converts};
 ghost use Rattle.pcs_drive.specs.Writing.{Puts, BreaksOff};
-ghost use Rattle.pcs_late.specs.Packing.{Packed, records_text};
+ghost use Rattle.pcs_late.specs.Packing.{Packed};
 
 use pcap_frames::{pcap_header, record_header};
-use pcs_drive::{Outcome, Output};
-use pcs_io::{Failed, Sink, Source, TextLines, put_all};
+use pcs_drive::{LineTask, Outcome, Output, drive_lines};
+use pcs_io::{Failed, Sink, Source, TextLines, TextParser, put_all};
 
 /// Writes the header of a pcap file, and then reads frame text and writes a record for each line, by
 /// a reader that was opened and had no other call. It takes no memory.
@@ -27,38 +26,36 @@ pub fn pcap_write_opened<R: Source, W: Sink>(
         return Outcome::WriteFault;
     }
     let mut output = Output::new();
-    match convert(lines, &mut output, source, sink) {
-        Ok(outcome) => outcome,
-        Err(Failed) => Outcome::WriteFault,
-    }
+    drive_lines(
+        &mut lines.reader,
+        &mut Packing,
+        &mut output,
+        source,
+        sink,
+    )
 }
 
-// Reads lines and gathers their records, which are written before the source is read again and at
-// the end. `Failed` comes where a write failed.
-fn convert<R: Source, W: Sink>(
-    lines: &mut TextLines,
-    output: &mut Output,
-    source: &mut R,
-    sink: &mut W,
-) -> Result<Outcome, Failed>
-    requires opened { Stands text_line_at lines.old (opened (2 ^ 40)) }
-    requires empty { output.old ≡ [] }
-    ensures { Converts text_line_at records_text
-        (seen R.left R.ended R.faults W.held W.faults source.old source.new sink.old sink.new) result }
-{
-    loop {
-        output.release(sink, lines.holds_line())?;
-        match lines.next(source) {
-            Ok(Some(frame)) => put_record(output, sink, frame)?,
-            Ok(None) => {
-                output.flush(sink)?;
-                return Ok(Outcome::Done);
-            }
-            Err(fault) => {
-                output.flush(sink)?;
-                return Ok(Outcome::from(fault));
-            }
-        }
+// The record of each frame.
+#[derive(Drop)]
+struct Packing;
+
+impl LineTask<TextParser> for Packing {
+    ghost use Rattle.std.specs.Prelude.{⊤};
+    ghost use Rattle.pcs_drive.specs.LineTasks.{by_lines};
+    ghost use Rattle.pcs_io.specs.TextLines.{TextParserState};
+    ghost use Rattle.pcs_late.specs.Packing.{records_text};
+
+    ghost text = { by_lines (λ (parser : TextParserState). parser.frame) records_text };
+
+    ghost Keeps = { λ x parsers. ⊤ };
+
+    fn put_line<W: Sink>(
+        &mut self,
+        parser: &TextParser,
+        output: &mut Output,
+        sink: &mut W,
+    ) -> Result<(), Failed> {
+        put_record(output, sink, parser.frame())
     }
 }
 

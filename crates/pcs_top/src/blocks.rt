@@ -4,7 +4,7 @@ ghost use Rattle.pcs_io.specs.Faults.{HasCause};
 ghost use Rattle.pcs_io.specs.FrameLines.{frame_line_at};
 ghost use Rattle.pcs_io.specs.Histories.{Stands, opened};
 ghost use Rattle.pcs_drive.specs.Seen.{seen};
-ghost use Rattle.pcs_drive.specs.LineCommand.{Converted, Converts, OrNoMemory};
+ghost use Rattle.pcs_drive.specs.LineCommand.{Converted, OrNoMemory};
 ghost use Rattle.pcs_top.specs.Texts.{block_line, block_text, column_text};
 ghost use Rattle.pcs_drive.specs.Writing.{Puts, BreaksOff};
 ghost use Rattle.pcs_io.specs.FrameAnswers.{said, FitsLine};
@@ -13,8 +13,8 @@ ghost use Rattle.mac_columns.specs.Columns.{columns_of, columns_of_set};
 
 use block66::{Block, encode};
 use mac_columns::{FrameColumns, SetColumns};
-use pcs_drive::{LIMIT, Outcome, Output};
-use pcs_io::{Failed, Line, Lines, Sink, Source};
+use pcs_drive::{LIMIT, LineTask, Outcome, Output, drive_lines};
+use pcs_io::{Failed, FrameParser, Line, Lines, Sink, Source};
 use std::alloc::Global;
 
 // The octets of a block line.
@@ -38,38 +38,36 @@ pub fn blocks_opened<R: Source, W: Sink>(lines: &mut Lines, source: &mut R, sink
         (seen R.left R.ended R.faults W.held W.faults source.old source.new sink.old sink.new) result }
 {
     let mut output = Output::new();
-    match convert(lines, &mut output, source, sink) {
-        Ok(outcome) => outcome,
-        Err(Failed) => Outcome::WriteFault,
-    }
+    drive_lines(
+        &mut lines.reader,
+        &mut Blocking,
+        &mut output,
+        source,
+        sink,
+    )
 }
 
-// Reads lines and gathers their text, which is written before the source is read again and at the
-// end. `Failed` comes where a write failed.
-fn convert<R: Source, W: Sink>(
-    lines: &mut Lines,
-    output: &mut Output,
-    source: &mut R,
-    sink: &mut W,
-) -> Result<Outcome, Failed>
-    requires opened { Stands frame_line_at lines.old (opened (2 ^ 40)) }
-    requires empty { output.old ≡ [] }
-    ensures { Converts frame_line_at block_text
-        (seen R.left R.ended R.faults W.held W.faults source.old source.new sink.old sink.new) result }
-{
-    loop {
-        output.release(sink, lines.holds_line())?;
-        match lines.next(source) {
-            Ok(Some(line)) => put_line(output, sink, line)?,
-            Ok(None) => {
-                output.flush(sink)?;
-                return Ok(Outcome::Done);
-            }
-            Err(fault) => {
-                output.flush(sink)?;
-                return Ok(Outcome::from(fault));
-            }
-        }
+// The block lines of each line's columns.
+#[derive(Drop)]
+struct Blocking;
+
+impl LineTask<FrameParser> for Blocking {
+    ghost use Rattle.std.specs.Prelude.{⊤};
+    ghost use Rattle.pcs_drive.specs.LineTasks.{by_lines};
+    ghost use Rattle.pcs_io.specs.FrameStages.{FrameParserState};
+    ghost use Rattle.pcs_top.specs.Texts.{block_text};
+
+    ghost text = { by_lines (λ (parser : FrameParserState). parser.line) block_text };
+
+    ghost Keeps = { λ x parsers. ⊤ };
+
+    fn put_line<W: Sink>(
+        &mut self,
+        parser: &FrameParser,
+        output: &mut Output,
+        sink: &mut W,
+    ) -> Result<(), Failed> {
+        put_line(output, sink, parser.line())
     }
 }
 

@@ -1,0 +1,8 @@
+use Rattle.std.proofs.Common.{refl}
+use Rattle.pcs_drive.proofs.WritingLemmas.{wrote-none}
+use Rattle.pcs_late.specs.Kr.{kr_text}
+use Rattle.pcs_late.proofs.KrLemmas.{no-lines}
+use Rattle.pcs_late.proofs.codewords.kr_opened.Goals as goal
+
+pub returns : goal.returns
+returns g c = c.drive_lines.ensures kr_text (g.W.Sink.held c.args.sink.now) (λ parsers. refl) (wrote-none _ _ _ no-lines c.new-output.ensures)
