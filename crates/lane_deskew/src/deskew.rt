@@ -195,6 +195,7 @@ impl Deskew {
     pub fn held(&self) -> u64
         ensures held { result ≡ held_of self.now }
         ensures within { result ≤ room_of self.now }
+        ensures bound { (h : Hunt) → Stands self.now h → result ≤ bound h.heard.period h.skew }
     {
         128 * self.kept.len() as u64 + self.lanes.held()
     }

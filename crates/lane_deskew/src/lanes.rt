@@ -167,6 +167,7 @@ impl LaneLocks {
     pub fn held(&self) -> u64
         ensures held { result ≡ lanes_held self.now }
         ensures within { result ≤ lanes_room self.now }
+        ensures bound { result ≤ 16 * (680 * self.now.period + 120) }
         ensures small { result ≤ 2 ^ 30 }
     {
         128 * self.kept.len() as u64

@@ -325,6 +325,7 @@ impl Receiver {
     pub fn held(&self) -> u64
         ensures held { result ≡ held_of self.now.aligner }
         ensures within { result ≤ room_of self.now.aligner }
+        ensures bound { (h : Hearing) → Stands self.now h → result ≤ bound h.heard.period h.skew }
     {
         self.deskew.held()
     }
