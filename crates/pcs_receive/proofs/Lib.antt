@@ -34,3 +34,5 @@ pub mod Given
 pub mod Opening
 pub mod Untouched
 pub mod ColumnCounts
+pub mod Told
+pub mod BeforeLoss

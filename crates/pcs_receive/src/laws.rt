@@ -1,5 +1,6 @@
 //! Laws of the events. A function that does nothing states its law in its contract.
 ghost use Rattle.pcs_receive.specs.Laws.{EventsGrow, EventsGoByHunts, BadBitsDoNotCount, BadPairsCloseFrames, PairsHaveAllColumns};
+ghost use Rattle.pcs_receive.specs.Told.{CallsTell, CallsLendAlignment, CallsLendCapture};
 ghost use Rattle.pcs_receive.specs.Headline.{TrueLockAligns, AlignmentIsTold, WordsTellWrongSymbols, ReportsTellWrongSymbols, Headline, HeadlineOfItems, AnyDamage, AnyDamageOverall, BadPairsAreErrors};
 
 /// What is told of a capture's first beats stands whatever beats follow.
@@ -56,4 +57,13 @@ pub fn any_damage()
     ensures alignment { AnyDamage }
     ensures capture { AnyDamageOverall }
     ensures errors { BadPairsAreErrors }
+{}
+
+/// The calls of a receiver of frames that takes the beats of a capture, each by `take`, with `next` until it answers none, and `frame`
+/// for each frame: `next` answers all events of the capture, and `frame` lends exactly its frames. So, whatever the damage, exactly
+/// the frames in unmarked wides are lent.
+pub fn calls_lend_frames()
+    ensures told { CallsTell }
+    ensures alignment { CallsLendAlignment }
+    ensures capture { CallsLendCapture }
 {}
