@@ -1,14 +1,16 @@
 // What is read: how much in one call, and nothing after a fault; and options that bring no want of memory.
-ghost use Rattle.std.specs.Prelude.{Some};
+ghost use Rattle.std.specs.Prelude.{None};
 
 use crate::commands::{ROWS, octets_of, reads_of};
-use memory_runs::words_of;
-use pcs_io::{BeatIn, Beats, CapFault, Failed, InFault, Lines, MemSource, NullSink, Source};
+use memory_runs::{words_of, written};
+use pcs_io::{
+    BeatIn, Beats, CapFault, Failed, InFault, Lines, MemSink, MemSource, NullSink, Source,
+};
 use pcs_top::{Status, run};
 use std::alloc::{AllocError, Global};
 use std::test::Fail;
 
-// A source that keeps the lengths of the slices that it was handed.
+// A source that keeps the lengths of the slices that it was handed. What it has left it doesn't tell.
 #[derive(Drop)]
 struct Noting {
     source: MemSource,
@@ -20,7 +22,7 @@ impl Source for Noting {
 
     ghost ended = { λ s. s.source.ended };
 
-    ghost left = { λ s. Some s.source.left };
+    ghost told = { λ s. record { given = s.source.given; left = None } };
 
     fn read(&mut self, into: &mut [u8]) -> Result<usize, Failed> {
         let _ = self.lengths.push(into.len());
@@ -60,6 +62,25 @@ fn whole_buffers_are_filled(rt: HostRuntime) -> Result<(), Fail> {
             source.lengths.iter().all(|&length| length == 65536),
             "{command}"
         );
+    }
+    Ok(())
+}
+
+// What is written doesn't hang on what a source tells.
+#[test]
+fn a_source_that_tells_nothing(rt: HostRuntime) -> Result<(), Fail> {
+    let alloc = rt.alloc();
+    for (command, input, _, _) in &ROWS {
+        let octets = octets_of(alloc, *input)?;
+        let wanted = written(alloc, command, &octets)?;
+        let mut source = noting_source(alloc, octets);
+        let words = words_of(alloc, command)?;
+        let mut sink = MemSink::new(alloc, 65536, 1000, Vec::new(alloc))?;
+        let mut notes = NullSink::new();
+        let watchers = Vec::new(alloc);
+        let status = run(alloc, words, &mut source, &mut sink, &mut notes, watchers);
+        assert_eq!(rt; status, Status::Done, "{command}");
+        assert_eq!(rt; sink.held(), wanted.as_slice(), "{command}");
     }
     Ok(())
 }

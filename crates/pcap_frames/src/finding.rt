@@ -34,7 +34,7 @@ pub fn read_header<S: Source>(
 ) -> Result<Order, PcapFault>
     requires room { 24 ≤ vec_capacity piece.old }
     requires taken { input.old.taken ≤ input.old.limit }
-    ensures finds { FindsHeader input.old input.new (S.left source.old) (S.left source.new) (S.ended source.new) result }
+    ensures finds { FindsHeader input.old input.new (S.told source.old) (S.told source.new) (S.ended source.new) result }
     ensures taken { input.new.taken ≤ input.new.limit }
     ensures limit { input.new.limit ≡ input.old.limit }
     ensures unused { (n : ℕ) → n + length input.old.unused ≤ input.old.taken → n + length input.new.unused ≤ input.new.taken }
@@ -90,7 +90,7 @@ pub fn read_record<S: Source>(
     requires taken { input.old.taken ≤ input.old.limit }
     requires limit { input.old.limit < 2 ^ 64 }
     requires records { records + length input.old.unused ≤ input.old.taken }
-    ensures finds { FindsRecord (record_at order short) records input.old input.new (S.left source.old) (S.left source.new) (S.ended source.new) piece.new.items result }
+    ensures finds { FindsRecord (record_at order short) records input.old input.new (S.told source.old) (S.told source.new) (S.ended source.new) piece.new.items result }
     ensures taken { input.new.taken ≤ input.new.limit }
     ensures room { vec_capacity piece.new ≡ vec_capacity piece.old }
     ensures later { S.faults source.old ≤ S.faults source.new }
@@ -128,8 +128,8 @@ fn find_record<S: Source>(
     requires room { 16384 ≤ vec_capacity piece.old }
     requires taken { input.old.taken ≤ input.old.limit }
     ensures finds { MatchResult result
-        (Finds (record_at order short) input.old input.new (S.left source.old) (S.left source.new) (S.ended source.new) piece.new.items)
-        (λ _. FailsOpen (record_at order short) input.old input.new (S.left source.old) (S.left source.new)) }
+        (Finds (record_at order short) input.old input.new (S.told source.old) (S.told source.new) (S.ended source.new) piece.new.items)
+        (λ _. FailsOpen (record_at order short) input.old input.new (S.told source.old) (S.told source.new)) }
     ensures taken { input.new.taken ≤ input.new.limit }
     ensures room { vec_capacity piece.new ≡ vec_capacity piece.old }
     ensures cause { HasCause (S.faults source.old) (S.faults source.new) result }

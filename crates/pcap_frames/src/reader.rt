@@ -71,7 +71,7 @@ impl PcapReader {
         requires unread { self.old.order ≡ None }
         requires going { self.old.standing ≡ Standing.Going }
         ensures answers { (h : History) → Stands self.old h → (got : List ℕ)
-            × HeaderAnswers h.limit got (S.left source.old) (S.left source.new) (S.ended source.new) result
+            × HeaderAnswers h.limit got (S.told source.old) (S.told source.new) (S.ended source.new) result
             × Stands self.new (header_told h got result) }
         ensures order { IfOk result (λ _. IsSome self.new.order) }
         ensures room { self.new.room ≡ self.old.room }
@@ -96,7 +96,7 @@ impl PcapReader {
     pub fn next<S: Source>(&mut self, source: &mut S) -> Result<Option<&[u8]>, PcapFault>
         requires { IsSome self.old.order }
         ensures* answers { sem 𝓛 (Rests the_row self.entry (λ new.
-            Nexts self.old new (S.left source.old) (S.left source.new) (S.ended source.new) (content result))) }
+            Nexts self.old new (S.told source.old) (S.told source.new) (S.ended source.new) (content result))) }
         ensures fits { FitsFrame result }
         ensures later { S.faults source.old ≤ S.faults source.new }
         ensures read { IsErrOf result PcapFault.Read → (Rose (S.faults source.old) (S.faults source.new)) ⊎ (self.old.standing ≡ Standing.Failed PcapFault.Read) }
@@ -119,7 +119,7 @@ impl PcapReader {
     // Reads the next record, and answers whether there is one.
     fn next_record<S: Source>(&mut self, source: &mut S) -> Result<bool, PcapFault>
         requires { IsSome self.old.order }
-        ensures nexts { Nexts self.old self.new (S.left source.old) (S.left source.new) (S.ended source.new) (answer_of result self.new.piece) }
+        ensures nexts { Nexts self.old self.new (S.told source.old) (S.told source.new) (S.ended source.new) (answer_of result self.new.piece) }
         ensures fits { result ≡ Ok true → length self.new.piece ≤ 16384 }
         ensures later { S.faults source.old ≤ S.faults source.new }
         ensures read { IsErrOf result PcapFault.Read → (Rose (S.faults source.old) (S.faults source.new)) ⊎ (self.old.standing ≡ Standing.Failed PcapFault.Read) }
@@ -130,8 +130,9 @@ impl PcapReader {
     // The same, by its state alone.
     fn advance<S: Source>(&mut self, source: &mut S) -> Result<bool, PcapFault>
         requires { IsSome self.old.order }
-        ensures calls { (order : Order) → self.old.order ≡ Some order → Calls self.old.standing order self.old self.new (S.left source.old) (S.left source.new) (S.ended source.new) result }
+        ensures calls { (order : Order) → self.old.order ≡ Some order → Calls self.old.standing order self.old self.new (S.told source.old) (S.told source.new) (S.ended source.new) result }
         ensures keeps { Keeps self.old self.new }
+        ensures within { self.new.buffer.taken ≤ self.new.buffer.limit }
         ensures later { S.faults source.old ≤ S.faults source.new }
         ensures read { IsErrOf result PcapFault.Read → (Rose (S.faults source.old) (S.faults source.new)) ⊎ (self.old.standing ≡ Standing.Failed PcapFault.Read) }
     {

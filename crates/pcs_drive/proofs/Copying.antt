@@ -1,8 +1,8 @@
 -- Lines that are turned into text one by one, in any grammar and by any text.
 use Rattle.std.proofs.Common.{◌≡◌, ℕ, ◌^◌, ◌<◌, ◌≤◌, ◌⊎◌, inl, inr, Bool, List, [], ◌∷◌, ◌++◌, length, Option, Some, None, IfSome, Result, Ok, Err, subst, refl, sym, append-nil, arith}
-use Rattle.std.specs.Io.KnownBytes.{Appends, Consumes}
+use Rattle.std.specs.Io.KnownBytes.{Appends}
 use Rattle.pcs_io.specs.Faults.{Rose}
-use Rattle.pcs_io.specs.Octets.{TakesWhereTold, AppendsFront}
+use Rattle.pcs_io.specs.Octets.{Told, Gives, TakesWhereTold, AppendsFront}
 use Rattle.pcs_io.specs.Grammars.{LineAt, Open, Begins, AreRefused, AreCut, IsNear}
 use Rattle.pcs_io.specs.Histories.{ReaderState, History, Stands, Nexts, Answers, Ends, told, opened}
 use Rattle.pcs_io.specs.declared.fault.Kind.{Kind}
@@ -11,7 +11,7 @@ use Rattle.pcs_io.specs.declared.fault.InFault.{InFault}
 use Rattle.pcs_io.specs.declared.fault.InFault.TheVariants as in_fault
 use Rattle.pcs_io.specs.declared.reader.Standing.TheVariants.{Going, Failed}
 use Rattle.pcs_io.proofs.Progress.{fresh-near}
-use Rattle.pcs_io.proofs.Told.{consumes-append, consumes-none, takes-after, takes-consumed}
+use Rattle.pcs_io.proofs.Told.{gives-append, gives-none, takes-after, takes-consumed}
 use Rattle.pcs_drive.specs.Outcomes.{outcome_of}
 use Rattle.pcs_drive.specs.Seen.{Seen, TookAll, Written, ReadFailed, WriteFailed}
 use Rattle.pcs_drive.specs.Writing.{Wrote, Stays, BreaksOffBefore}
@@ -29,38 +29,38 @@ all-written None after text a = tt
 all-written (Some before) None text a = absurd a
 all-written (Some before) (Some after) text a = a
 
-pub took-all : (seen : Seen) (mid : Option (List ℕ)) (octets got : List ℕ) → Consumes seen.left_before mid octets
-    → Ends mid seen.left_after seen.ended got → TookAll seen (octets ++ got)
+pub took-all : (seen : Seen) (mid : Told) (octets got : List ℕ) → Gives seen.told_before mid octets
+    → Ends mid seen.told_after seen.ended got → TookAll seen (octets ++ got)
 took-all seen mid octets got c e = record {
-  took = takes-after seen.left_before mid seen.left_after octets got c e.source;
+  took = takes-after seen.told_before mid seen.told_after octets got c e.source;
   nothing = e.nothing;
   ended = e.over;
 }
 
-pub took-more : (seen : Seen) (mid : Option (List ℕ)) (octets got : List ℕ) → Consumes seen.left_before mid octets
-    → Consumes mid seen.left_after got → TakesWhereTold seen.left_before seen.left_after (octets ++ got)
-took-more seen mid octets got c e = takes-consumed seen.left_before seen.left_after (octets ++ got) (consumes-append seen.left_before mid seen.left_after octets got c e)
+pub took-more : (seen : Seen) (mid : Told) (octets got : List ℕ) → Gives seen.told_before mid octets
+    → Gives mid seen.told_after got → TakesWhereTold seen.told_before seen.told_after (octets ++ got)
+took-more seen mid octets got c e = takes-consumed seen.told_before seen.told_after (octets ++ got) (gives-append seen.told_before mid seen.told_after octets got c e)
 
 -- a count that rose later rose since the start
 pub rose-after : (first mid last : ℕ) → first ≤ mid → Rose mid last → Rose first last
 rose-after first mid last later rose = omega arith
 
 module _ {X : Type 0} (line_at : List ℕ → LineAt X) where
-  pub refused : (seen : Seen) (mid : Option (List ℕ)) (octets got : List ℕ) (lines : List X) (kind : Kind) → Consumes seen.left_before mid octets
-      → ((Consumes mid seen.left_after got × AreRefused line_at (octets ++ got) lines kind)
-      ⊎ ((kind ≡ NoEnd) × Ends mid seen.left_after seen.ended got × (length (octets ++ got) < 2 ^ 40) × AreCut line_at (octets ++ got) lines))
+  pub refused : (seen : Seen) (mid : Told) (octets got : List ℕ) (lines : List X) (kind : Kind) → Gives seen.told_before mid octets → length (octets ++ got) ≤ 2 ^ 40
+      → ((Gives mid seen.told_after got × AreRefused line_at (octets ++ got) lines kind)
+      ⊎ ((kind ≡ NoEnd) × Ends mid seen.told_after seen.ended got × (length (octets ++ got) < 2 ^ 40) × AreCut line_at (octets ++ got) lines))
       → IsRefused line_at seen (octets ++ got) lines kind
-  refused seen mid octets got lines kind took (inl a) = inl (took-more seen mid octets got took a.0, a.1)
-  refused seen mid octets got lines kind took (inr a) = inr (a.0, took-all seen mid octets got took a.1, a.2, a.3)
+  refused seen mid octets got lines kind took within (inl a) = inl (took-more seen mid octets got took a.0, within, a.1)
+  refused seen mid octets got lines kind took within (inr a) = inr (a.0, took-all seen mid octets got took a.1, a.2, a.3)
 
   open-near : (rest : List ℕ) → line_at rest ≡ Open → IsNear line_at rest
   open-near rest is = (rest, [], sym (append-nil rest), λ _. is, omega arith)
 
   -- what a fault leaves behind the lines
-  abbrev pub Behind : History X → List ℕ → Option (List ℕ) → Option (List ℕ) → Type 0
+  abbrev pub Behind : History X → List ℕ → Told → Told → Type 0
   Behind h got before now = (rest : List ℕ) × TakesWhereTold before now got × Begins line_at (h.octets ++ got) h.lines rest × IsNear line_at rest
 
-  pub behind-fault : (h : History X) (got : List ℕ) (before now : Option (List ℕ)) (ended : Bool) (fault : InFault)
+  pub behind-fault : (h : History X) (got : List ℕ) (before now : Told) (ended : Bool) (fault : InFault)
       → Answers line_at h got before now ended (Err fault) → Behind h got before now
   behind-fault h got before now ended in_fault.Read a = (a.1.0, a.0, a.1.1, open-near a.1.0 a.1.2)
   behind-fault h got before now ended (in_fault.BadLine number kind) (same, inl a) = (a.1.0, takes-consumed before now got a.0, a.1.1, a.1.3)
@@ -74,22 +74,22 @@ opened-near line_at lines stands = subst (IsNear line_at) stands.unused (fresh-n
 module _ {X : Type 0} (line_at : List ℕ → LineAt X) (text_of : List X → List ℕ) where
   -- a write failed: `rest` stands behind the lines whose text is written in part
   failed : (seen : Seen) (octets : List ℕ) (lines : List X) (rest : List ℕ) → WriteFailed seen
-      → TakesWhereTold seen.left_before seen.left_after octets → Begins line_at octets lines rest → IsNear line_at rest
+      → TakesWhereTold seen.told_before seen.told_after octets → length octets ≤ 2 ^ 40 → Begins line_at octets lines rest → IsNear line_at rest
       → AppendsFront seen.held_before seen.held_after (text_of lines) → Converted line_at text_of seen WriteFault
-  failed seen octets lines rest rose took begins near front = (octets, lines, rest, rose, took, begins, near, front)
+  failed seen octets lines rest rose took within begins near front = (octets, lines, rest, rose, took, within, begins, near, front)
 
 module _ {X P : Type 0} (line_at : List ℕ → LineAt X) where
   -- the answer of a call, by its arm
-  pub next-line : (old new : ReaderState P) (mid now : Option (List ℕ)) (ended : Bool) (answer : Result (Option X) InFault) (line : X)
+  pub next-line : (old new : ReaderState P) (mid now : Told) (ended : Bool) (answer : Result (Option X) InFault) (line : X)
       → answer ≡ Ok (Some line)
       → Nexts line_at old new mid now ended answer → Nexts line_at old new mid now ended (Ok (Some line))
   next-line old new mid now ended answer line is n = subst (Nexts line_at old new mid now ended) is n
 
-  pub next-end : (old new : ReaderState P) (mid now : Option (List ℕ)) (ended : Bool) (answer : Result (Option X) InFault) → answer ≡ Ok None
+  pub next-end : (old new : ReaderState P) (mid now : Told) (ended : Bool) (answer : Result (Option X) InFault) → answer ≡ Ok None
       → Nexts line_at old new mid now ended answer → Nexts line_at old new mid now ended (Ok None)
   next-end old new mid now ended answer is n = subst (Nexts line_at old new mid now ended) is n
 
-  pub next-fault : (old new : ReaderState P) (mid now : Option (List ℕ)) (ended : Bool) (answer : Result (Option X) InFault)
+  pub next-fault : (old new : ReaderState P) (mid now : Told) (ended : Bool) (answer : Result (Option X) InFault)
       (fault : InFault) → answer ≡ Err fault
       → Nexts line_at old new mid now ended answer → Nexts line_at old new mid now ended (Err fault)
   next-fault old new mid now ended answer fault is n = subst (Nexts line_at old new mid now ended) is n
@@ -97,16 +97,16 @@ module _ {X P : Type 0} (line_at : List ℕ → LineAt X) where
 module _ {X P : Type 0} (line_at : List ℕ → LineAt X) (text_of : List X → List ℕ) where
   -- The reader goes on behind the lines that it answered, and their text is written but what is pending. `Keeps` is what else holds of
   -- these lines.
-  pub record Copied (Keeps : List X → Type 0) (lines : ReaderState P) (before now held_before held_now : Option (List ℕ)) (pending : List ℕ) : Type 0 where
+  pub record Copied (Keeps : List X → Type 0) (lines : ReaderState P) (before now : Told) (held_before held_now : Option (List ℕ)) (pending : List ℕ) : Type 0 where
     pub octets : List ℕ
     pub answered : List X
     pub stands : Stands line_at lines (reading octets answered)
     pub near : IsNear line_at lines.buffer.unused
-    pub took : Consumes before now octets
+    pub took : Gives before now octets
     pub wrote : Wrote held_before held_now (text_of answered) pending
     pub keeps : Keeps answered
 
-  pub copied-start : (Keeps : List X → Type 0) (lines : ReaderState P) (before held : Option (List ℕ)) (pending : List ℕ)
+  pub copied-start : (Keeps : List X → Type 0) (lines : ReaderState P) (before : Told) (held : Option (List ℕ)) (pending : List ℕ)
       → Stands line_at lines (opened (2 ^ 40))
       → Wrote held held (text_of []) pending → Keeps [] → Copied Keeps lines before before held held pending
   copied-start Keeps lines before held pending stands wrote keeps = record {
@@ -114,13 +114,13 @@ module _ {X P : Type 0} (line_at : List ℕ → LineAt X) (text_of : List X → 
     answered = [];
     stands = stands;
     near = opened-near line_at lines stands;
-    took = consumes-none before;
+    took = gives-none before;
     wrote = wrote;
     keeps = keeps;
   }
 
   -- what is pending may be written at any time
-  pub copied-kept : (Keeps : List X → Type 0) (lines : ReaderState P) (before now held_before held_mid held_now : Option (List ℕ)) (old new : List ℕ)
+  pub copied-kept : (Keeps : List X → Type 0) (lines : ReaderState P) (before now : Told) (held_before held_mid held_now : Option (List ℕ)) (old new : List ℕ)
       → Copied Keeps lines before now held_before held_mid old
       → Stays held_mid old held_now new → Copied Keeps lines before now held_before held_now new
   copied-kept Keeps lines before now held_before held_mid held_now old new c kept = record {
@@ -134,7 +134,7 @@ module _ {X P : Type 0} (line_at : List ℕ → LineAt X) (text_of : List X → 
   }
 
   -- what a call of a reader that goes on tells
-  pub tells : (Keeps : List X → Type 0) (old new : ReaderState P) (before mid now held_before held_now : Option (List ℕ)) (pending : List ℕ)
+  pub tells : (Keeps : List X → Type 0) (old new : ReaderState P) (before mid now : Told) (held_before held_now : Option (List ℕ)) (pending : List ℕ)
       (ended : Bool) (answer : Result (Option X) InFault)
       → (c : Copied Keeps old before mid held_before held_now pending) → Nexts line_at old new mid now ended answer
       → (got : List ℕ) × Answers line_at (reading c.octets c.answered) got mid now ended answer × Stands line_at new (told (reading c.octets c.answered) got answer)
@@ -142,7 +142,7 @@ module _ {X P : Type 0} (line_at : List ℕ → LineAt X) (text_of : List X → 
 
   -- one line more
   pub copied-line : (Keeps Next : List X → Type 0) (old new : ReaderState P)
-      (before mid now held_before held_mid held_now : Option (List ℕ)) (pending more : List ℕ) (ended : Bool) (line : X)
+      (before mid now : Told) (held_before held_mid held_now : Option (List ℕ)) (pending more : List ℕ) (ended : Bool) (line : X)
       → Copied Keeps old before mid held_before held_mid pending → Nexts line_at old new mid now ended (Ok (Some line))
       → ((lines : List X) → Keeps lines → Next (lines ++ line ∷ []))
       → ((lines : List X) → Keeps lines → (start : Option (List ℕ)) → Wrote start held_mid (text_of lines) pending → Wrote start held_now (text_of (lines ++ line ∷ [])) more)
@@ -154,89 +154,89 @@ module _ {X P : Type 0} (line_at : List ℕ → LineAt X) (text_of : List X → 
         answered = c.answered ++ line ∷ [];
         stands = t.2;
         near = fresh-near line_at new.buffer.unused n.within;
-        took = consumes-append before mid now c.octets t.0 c.took t.1.0;
+        took = gives-append before mid now c.octets t.0 c.took t.1.0;
         wrote = put c.answered c.keeps held_before c.wrote;
         keeps = next c.answered c.keeps;
       }
 
-  pub flushed-text : (Keeps : List X → Type 0) (seen : Seen) (old : ReaderState P) (mid held_mid : Option (List ℕ)) (pending : List ℕ)
-      → (c : Copied Keeps old seen.left_before mid seen.held_before held_mid pending)
+  pub flushed-text : (Keeps : List X → Type 0) (seen : Seen) (old : ReaderState P) (mid : Told) (held_mid : Option (List ℕ)) (pending : List ℕ)
+      → (c : Copied Keeps old seen.told_before mid seen.held_before held_mid pending)
       → Stays held_mid pending seen.held_after [] → Written seen (text_of c.answered)
   flushed-text Keeps seen old mid held_mid pending c flushed =
       all-written seen.held_before seen.held_after (text_of c.answered)
       (wrote-all seen.held_before seen.held_after (text_of c.answered) (flushed seen.held_before (text_of c.answered) c.wrote))
 
   -- the end of the input between two lines
-  pub copied-done : (Keeps : List X → Type 0) (seen : Seen) (old new : ReaderState P) (mid held_mid : Option (List ℕ)) (pending : List ℕ)
-      → Copied Keeps old seen.left_before mid seen.held_before held_mid pending → Nexts line_at old new mid seen.left_after seen.ended (Ok None)
+  pub copied-done : (Keeps : List X → Type 0) (seen : Seen) (old new : ReaderState P) (mid : Told) (held_mid : Option (List ℕ)) (pending : List ℕ)
+      → Copied Keeps old seen.told_before mid seen.held_before held_mid pending → Nexts line_at old new mid seen.told_after seen.ended (Ok None)
       → Stays held_mid pending seen.held_after []
       → Converted line_at text_of seen Done
   copied-done Keeps seen old new mid held_mid pending c n flushed =
-      let t = tells Keeps old new seen.left_before mid seen.left_after seen.held_before held_mid pending seen.ended (Ok None) c n in
+      let t = tells Keeps old new seen.told_before mid seen.told_after seen.held_before held_mid pending seen.ended (Ok None) c n in
       (c.octets ++ t.0, c.answered, took-all seen mid c.octets t.0 c.took t.1.0, t.1.1, t.1.2, flushed-text Keeps seen old mid held_mid pending c flushed)
 
   -- a fault of the reader
-  pub copied-fault : (Keeps : List X → Type 0) (seen : Seen) (old new : ReaderState P) (mid held_mid : Option (List ℕ)) (pending : List ℕ)
+  pub copied-fault : (Keeps : List X → Type 0) (seen : Seen) (old new : ReaderState P) (mid : Told) (held_mid : Option (List ℕ)) (pending : List ℕ)
       (fault : InFault)
-      → Copied Keeps old seen.left_before mid seen.held_before held_mid pending → Nexts line_at old new mid seen.left_after seen.ended (Err fault)
+      → Copied Keeps old seen.told_before mid seen.held_before held_mid pending → Nexts line_at old new mid seen.told_after seen.ended (Err fault)
       → (fault ≡ in_fault.Read → ReadFailed seen)
       → Stays held_mid pending seen.held_after []
       → Converted line_at text_of seen (outcome_of fault)
   copied-fault Keeps seen old new mid held_mid pending in_fault.Read c n rose flushed =
-      let t = tells Keeps old new seen.left_before mid seen.left_after seen.held_before held_mid pending seen.ended (Err in_fault.Read) c n in
-      (c.octets ++ t.0, c.answered, rose refl, takes-after seen.left_before mid seen.left_after c.octets t.0 c.took t.1.0, t.1.1, flushed-text Keeps seen old mid held_mid pending c flushed)
+      let t = tells Keeps old new seen.told_before mid seen.told_after seen.held_before held_mid pending seen.ended (Err in_fault.Read) c n in
+      (c.octets ++ t.0, c.answered, rose refl, takes-after seen.told_before mid seen.told_after c.octets t.0 c.took t.1.0, t.2.within, t.1.1, flushed-text Keeps seen old mid held_mid pending c flushed)
   copied-fault Keeps seen old new mid held_mid pending (in_fault.BadLine number kind) c n rose flushed =
-      let t = tells Keeps old new seen.left_before mid seen.left_after seen.held_before held_mid pending seen.ended (Err (in_fault.BadLine number kind)) c n in
-      (c.octets ++ t.0, c.answered, t.1.0, refused line_at seen mid c.octets t.0 c.answered kind c.took t.1.1, flushed-text Keeps seen old mid held_mid pending c flushed)
+      let t = tells Keeps old new seen.told_before mid seen.told_after seen.held_before held_mid pending seen.ended (Err (in_fault.BadLine number kind)) c n in
+      (c.octets ++ t.0, c.answered, t.1.0, refused line_at seen mid c.octets t.0 c.answered kind c.took t.2.within t.1.1, flushed-text Keeps seen old mid held_mid pending c flushed)
   copied-fault Keeps seen old new mid held_mid pending in_fault.TooLong c n rose flushed =
-      let t = tells Keeps old new seen.left_before mid seen.left_after seen.held_before held_mid pending seen.ended (Err in_fault.TooLong) c n in
+      let t = tells Keeps old new seen.told_before mid seen.told_after seen.held_before held_mid pending seen.ended (Err in_fault.TooLong) c n in
       (c.octets ++ t.0, c.answered, took-more seen mid c.octets t.0 c.took t.1.0, t.1.1, t.1.2, flushed-text Keeps seen old mid held_mid pending c flushed)
 
   -- before the next line is read
   pub copied-failed : (Keeps : List X → Type 0) (seen : Seen) (lines : ReaderState P) (held_mid : Option (List ℕ)) (pending : List ℕ)
-      → Copied Keeps lines seen.left_before seen.left_after seen.held_before held_mid pending → WriteFailed seen
+      → Copied Keeps lines seen.told_before seen.told_after seen.held_before held_mid pending → WriteFailed seen
       → BreaksOffBefore held_mid pending seen.held_after
       → Converted line_at text_of seen WriteFault
   copied-failed Keeps seen lines held_mid pending c rose front =
-      failed line_at text_of seen c.octets c.answered lines.buffer.unused rose (takes-consumed seen.left_before seen.left_after c.octets c.took) c.stands.unused c.near
+      failed line_at text_of seen c.octets c.answered lines.buffer.unused rose (takes-consumed seen.told_before seen.told_after c.octets c.took) c.stands.within c.stands.unused c.near
       (front seen.held_before (text_of c.answered) c.wrote)
 
   -- within the text of a line
-  pub line-failed : (Keeps : List X → Type 0) (seen : Seen) (old new : ReaderState P) (mid held_mid : Option (List ℕ)) (pending : List ℕ) (line : X)
-      → Copied Keeps old seen.left_before mid seen.held_before held_mid pending
-      → Nexts line_at old new mid seen.left_after seen.ended (Ok (Some line)) → WriteFailed seen
+  pub line-failed : (Keeps : List X → Type 0) (seen : Seen) (old new : ReaderState P) (mid : Told) (held_mid : Option (List ℕ)) (pending : List ℕ) (line : X)
+      → Copied Keeps old seen.told_before mid seen.held_before held_mid pending
+      → Nexts line_at old new mid seen.told_after seen.ended (Ok (Some line)) → WriteFailed seen
       → ((lines : List X) → Keeps lines → (start : Option (List ℕ)) → Wrote start held_mid (text_of lines) pending → AppendsFront start seen.held_after (text_of (lines ++ line ∷ [])))
       → Converted line_at text_of seen WriteFault
   line-failed Keeps seen old new mid held_mid pending line c n rose front =
-      let t = tells Keeps old new seen.left_before mid seen.left_after seen.held_before held_mid pending seen.ended (Ok (Some line)) c n in
-      failed line_at text_of seen (c.octets ++ t.0) (c.answered ++ line ∷ []) new.buffer.unused rose (took-more seen mid c.octets t.0 c.took t.1.0) t.2.unused (fresh-near line_at new.buffer.unused n.within)
+      let t = tells Keeps old new seen.told_before mid seen.told_after seen.held_before held_mid pending seen.ended (Ok (Some line)) c n in
+      failed line_at text_of seen (c.octets ++ t.0) (c.answered ++ line ∷ []) new.buffer.unused rose (took-more seen mid c.octets t.0 c.took t.1.0) t.2.within t.2.unused (fresh-near line_at new.buffer.unused n.within)
       (front c.answered c.keeps seen.held_before c.wrote)
 
   -- at the end
-  pub end-failed : (Keeps : List X → Type 0) (seen : Seen) (old new : ReaderState P) (mid held_mid : Option (List ℕ)) (pending : List ℕ)
-      → Copied Keeps old seen.left_before mid seen.held_before held_mid pending
-      → Nexts line_at old new mid seen.left_after seen.ended (Ok None) → WriteFailed seen
+  pub end-failed : (Keeps : List X → Type 0) (seen : Seen) (old new : ReaderState P) (mid : Told) (held_mid : Option (List ℕ)) (pending : List ℕ)
+      → Copied Keeps old seen.told_before mid seen.held_before held_mid pending
+      → Nexts line_at old new mid seen.told_after seen.ended (Ok None) → WriteFailed seen
       → BreaksOffBefore held_mid pending seen.held_after
       → Converted line_at text_of seen WriteFault
   end-failed Keeps seen old new mid held_mid pending c n rose front =
-      let t = tells Keeps old new seen.left_before mid seen.left_after seen.held_before held_mid pending seen.ended (Ok None) c n in
-      failed line_at text_of seen (c.octets ++ t.0) c.answered [] rose (takes-after seen.left_before mid seen.left_after c.octets t.0 c.took t.1.0.source) t.1.2 (fresh-near line_at [] (omega arith))
+      let t = tells Keeps old new seen.told_before mid seen.told_after seen.held_before held_mid pending seen.ended (Ok None) c n in
+      failed line_at text_of seen (c.octets ++ t.0) c.answered [] rose (takes-after seen.told_before mid seen.told_after c.octets t.0 c.took t.1.0.source) t.2.within t.1.2 (fresh-near line_at [] (omega arith))
       (front seen.held_before (text_of c.answered) c.wrote)
 
-  pub fault-failed : (Keeps : List X → Type 0) (seen : Seen) (old new : ReaderState P) (mid held_mid : Option (List ℕ)) (pending : List ℕ)
+  pub fault-failed : (Keeps : List X → Type 0) (seen : Seen) (old new : ReaderState P) (mid : Told) (held_mid : Option (List ℕ)) (pending : List ℕ)
       (fault : InFault)
-      → Copied Keeps old seen.left_before mid seen.held_before held_mid pending
-      → Nexts line_at old new mid seen.left_after seen.ended (Err fault) → WriteFailed seen
+      → Copied Keeps old seen.told_before mid seen.held_before held_mid pending
+      → Nexts line_at old new mid seen.told_after seen.ended (Err fault) → WriteFailed seen
       → BreaksOffBefore held_mid pending seen.held_after
       → Converted line_at text_of seen WriteFault
   fault-failed Keeps seen old new mid held_mid pending fault c n rose front =
-      let t = tells Keeps old new seen.left_before mid seen.left_after seen.held_before held_mid pending seen.ended (Err fault) c n in
-      let behind = behind-fault line_at (reading c.octets c.answered) t.0 mid seen.left_after seen.ended fault t.1 in
-      failed line_at text_of seen (c.octets ++ t.0) c.answered behind.0 rose (takes-after seen.left_before mid seen.left_after c.octets t.0 c.took behind.1) behind.2 behind.3
+      let t = tells Keeps old new seen.told_before mid seen.told_after seen.held_before held_mid pending seen.ended (Err fault) c n in
+      let behind = behind-fault line_at (reading c.octets c.answered) t.0 mid seen.told_after seen.ended fault t.1 in
+      failed line_at text_of seen (c.octets ++ t.0) c.answered behind.0 rose (takes-after seen.told_before mid seen.told_after c.octets t.0 c.took behind.1) t.2.within behind.2 behind.3
       (front seen.held_before (text_of c.answered) c.wrote)
 
   -- a reader that goes on answers a read fault only where a read failed
-  pub read-failed : (Keeps : List X → Type 0) (lines : ReaderState P) (before now held_before held_now : Option (List ℕ)) (pending : List ℕ)
+  pub read-failed : (Keeps : List X → Type 0) (lines : ReaderState P) (before now : Told) (held_before held_now : Option (List ℕ)) (pending : List ℕ)
       (first mid last : ℕ)
       → Copied Keeps lines before now held_before held_now pending
       → first ≤ mid → Rose mid last ⊎ (lines.standing ≡ Failed in_fault.Read) → Rose first last

@@ -1,8 +1,9 @@
 -- The input decides how a command ends.
-use Rattle.std.proofs.Common.{◌≡◌, ℕ, ◌+◌, ◌^◌, ◌<◌, ◌≤◌, ◌⊎◌, inl, inr, Bool, true, false, List, [], ◌∷◌, ◌++◌, length, Option, Some, IfSome, sym, ◌∙◌, ap, ap₂, subst, refl, append-nil, append_assoc, length-append, arith}
+use Rattle.std.proofs.Common.{◌≡◌, ℕ, ◌+◌, ◌-◌, ◌^◌, ◌<◌, ◌≤◌, ◌⊎◌, inl, inr, Bool, true, false, List, [], ◌∷◌, ◌++◌, length, take, Option, Some, IfSome, sym, ◌∙◌, ap, ap₂, subst, refl, append-nil, append_assoc, length-append, arith}
 use Rattle.std.specs.Prelude.{◌≢◌, nat_lt}
-use Rattle.std.proofs.lemmas.Bool.{lt-ltb}
-use Rattle.pcs_io.specs.Octets.{TakesWhereTold}
+use Rattle.std.proofs.lemmas.Bool.{lt-ltb, le-ltb}
+use Rattle.std.proofs.Math.Seq.{take-append-add}
+use Rattle.std.proofs.lemmas.List.{append_cancel_left, length-take}
 use Rattle.pcs_io.specs.Beats.{beat_at}
 use Rattle.pcs_io.specs.Grammars.{LineAt, Line, Refused, Open, IsGrammar, Begins, AreLines, EndOpen}
 use Rattle.pcs_io.specs.Captures.{FrontAt, Whole, Wrong, Short, OpensWholeBy}
@@ -14,21 +15,60 @@ use Rattle.pcs_io.proofs.LineLaws.{begins-more, refused-more}
 use Rattle.pcs_drive.specs.Seen.{Seen, Took, TookAll, ReadFailed, WriteFailed}
 use Rattle.pcs_drive.specs.LineCommand.{Converted, IsRefused}
 use Rattle.pcs_drive.specs.CaptureCommand.{TextBehind, TookAllBeatsBy, FromBeatsBy, FromFileBy, IsNoHeaderBy, outcome_at_end}
-use Rattle.pcs_drive.specs.Deciding.{IsSettled, Given, Decides, LinesDecide, BeatsDecide}
+use Rattle.pcs_drive.specs.Deciding.{IsSettled, Given, GaveInput, LeftInput, Decides, LinesDecide, BeatsDecide}
 use Rattle.pcs_drive.specs.declared.outcome.Outcome.{Outcome}
 use Rattle.pcs_drive.specs.declared.outcome.Outcome.TheVariants.{Done, ReadFault, WriteFault, NoMemory, BadLine, BadHeader, TooTight, Cut, NotAligned, TooLong}
 use Rattle.pcs_drive.proofs.HeadersStay.{Stays, wrong-more, whole-more}
 
--- the octets taken are the front of those that the source had
-pub front : (before after : Option (List ℕ)) (octets rest taken : List ℕ) → before ≡ Some octets → after ≡ Some rest
-    → TakesWhereTold before after taken → octets ≡ taken ++ rest
-front before after octets rest taken b a took = subst (λ o. TakesWhereTold o (Some rest) taken) b (subst (λ o. TakesWhereTold before o taken) a took)
+pub nothing-left : (rest : List ℕ) → length rest ≤ 0 → rest ≡ []
+nothing-left [] few = refl
+nothing-left (x ∷ rest) few = absurd (omega (arith, few))
+
+-- what was taken is what reads gave
+taken-is : (seen : Seen) (input taken : List ℕ) (g : Given seen input) → Took seen taken → g.octets ≡ taken
+taken-is seen input taken g took = append_cancel_left seen.told_before.given g.octets taken (sym g.gave ∙ took.0)
+
+-- the octets taken are the first of the input
+pub front : (seen : Seen) (input taken : List ℕ) (g : Given seen input) → Took seen taken → input ≡ taken ++ g.rest
+front seen input taken g took = g.parts ∙ ap (λ os. os ++ g.rest) (taken-is seen input taken g took)
 
 -- or all of them, at the end
-pub all : (seen : Seen) (octets rest taken : List ℕ) → seen.left_before ≡ Some octets → seen.left_after ≡ Some rest → TookAll seen taken → octets ≡ taken
-all seen octets rest taken b a took =
-    let none : rest ≡ [] = subst (λ o. IfSome o (λ left. left ≡ [])) a took.nothing in
-    front seen.left_before seen.left_after octets rest taken b a took.took ∙ ap (λ r. taken ++ r) none ∙ append-nil taken
+pub all : (seen : Seen) (input taken : List ℕ) (g : Given seen input) → TookAll seen taken → input ≡ taken
+all seen input taken g took =
+    let none : g.rest ≡ [] = g.whole (subst (TookAll seen) (sym (taken-is seen input taken g took.took)) took) in
+    front seen input taken g took.took ∙ ap (λ r. taken ++ r) none ∙ append-nil taken
+
+pub gave-input : GaveInput
+gave-input seen octets took = record { octets = octets; rest = []; gave = took.0; parts = sym (append-nil octets); whole = λ all. refl }
+
+pub left-input : LeftInput
+left-input seen input rest octets before after took = record {
+  octets = octets;
+  rest = rest;
+  gave = took.0;
+  parts = subst (λ o. IfSome o (λ xs. xs ≡ octets ++ rest)) before (subst (λ o. IfSome seen.told_before.left (λ xs. IfSome o (λ ys. xs ≡ octets ++ ys))) after took.1);
+  whole = λ all. subst (λ o. IfSome o (λ left. left ≡ [])) after all.nothing;
+}
+
+-- what may be read of an input
+abbrev pub reach : List ℕ → List ℕ
+reach input = take (2 ^ 40) input
+
+pub reach-front : (input octets rest : List ℕ) → input ≡ octets ++ rest → length octets ≤ 2 ^ 40 → reach input ≡ octets ++ take (2 ^ 40 - length octets) rest
+reach-front input octets rest parts few =
+    let count : 2 ^ 40 ≡ length octets + (2 ^ 40 - length octets) = omega (arith, few) in
+    ap (λ i. take (2 ^ 40) i) parts ∙ ap (λ n. take n (octets ++ rest)) count ∙ take-append-add octets rest (2 ^ 40 - length octets)
+
+pub all-reached : (input octets : List ℕ) → input ≡ octets → length octets ≤ 2 ^ 40 → reach input ≡ octets
+all-reached input octets same few =
+    reach-front input octets [] (same ∙ sym (append-nil octets)) few ∙ ap (λ r. octets ++ r) (nothing-left (take (2 ^ 40 - length octets) []) (omega (arith, length-take {A = ℕ} (2 ^ 40 - length octets) [])))
+    ∙ append-nil octets
+
+-- at the limit
+pub limit-reached : (input octets rest : List ℕ) → input ≡ octets ++ rest → length octets ≡ 2 ^ 40 → reach input ≡ octets
+limit-reached input octets rest parts long =
+    let none : length (take (2 ^ 40 - length octets) rest) ≤ 0 = omega (arith, long, length-take (2 ^ 40 - length octets) rest) in
+    reach-front input octets rest parts (omega (arith, long)) ∙ ap (λ r. octets ++ r) (nothing-left (take (2 ^ 40 - length octets) rest) none) ∙ append-nil octets
 
 -- Octets have one header and one list of beats.
 begins-alone : (octets : List ℕ) (beats others : List (List ℕ)) (rest left : List ℕ) → Begins beat_at octets beats rest → Begins beat_at octets others left
@@ -70,10 +110,6 @@ verdict number Open true true = BadLine number NoEnd
 verdict number Open true false = Done
 verdict number Open false some = TooLong
 
-pub nothing-left : (rest : List ℕ) → length rest ≤ 0 → rest ≡ []
-nothing-left [] few = refl
-nothing-left (x ∷ rest) few = absurd (omega (arith, few))
-
 module _ {X : Type 0} (line_at : List ℕ → LineAt X) (grammar : IsGrammar line_at) where
   -- no line stands there
   abbrev pub IsStop : List ℕ → Type 0
@@ -112,16 +148,16 @@ module _ {X : Type 0} (line_at : List ℕ → LineAt X) (grammar : IsGrammar lin
       by [] same last = (same ∙ append-nil others, sym last)
       by (line ∷ more) same last = absurd (stop_too line last.0 last.1)
 
-  -- these are all lines of the input that is read, and it ends so
+  -- these are all lines of the input that is read, as far as it may be, and it ends so
   pub record Stopped (input : List ℕ) (lines : List X) (outcome : Outcome) : Type 0 where
     pub rest : List ℕ
-    pub begins : Begins line_at input lines rest
+    pub begins : Begins line_at (reach input) lines rest
     pub stop : IsStop rest
     pub is : outcome ≡ verdict (length lines + 1) (line_at rest) (nat_lt (length input) (2 ^ 40)) (nat_lt 0 (length rest))
 
   pub one-stop : (input : List ℕ) (lines others : List X) (first second : Outcome) → Stopped input lines first → Stopped input others second → first ≡ second
   one-stop input lines others first second s t =
-      let same = alone input lines others s.rest t.rest s.begins s.stop t.begins t.stop in
+      let same = alone (reach input) lines others s.rest t.rest s.begins s.stop t.begins t.stop in
       s.is ∙ ap₂ (λ ls rest. verdict (length ls + 1) (line_at rest) (nat_lt (length input) (2 ^ 40)) (nat_lt 0 (length rest))) same.0 same.1 ∙ sym t.is
 
   open-stop : (octets : List ℕ) → line_at octets ≡ Open → IsStop octets
@@ -130,7 +166,7 @@ module _ {X : Type 0} (line_at : List ℕ → LineAt X) (grammar : IsGrammar lin
   pub stopped-done : (input octets : List ℕ) (lines : List X) → input ≡ octets → AreLines line_at octets lines → length octets < 2 ^ 40 → Stopped input lines Done
   stopped-done input octets lines same whole short = record {
     rest = [];
-    begins = subst (λ os. AreLines line_at os lines) (sym same) whole;
+    begins = subst (λ os. AreLines line_at os lines) (sym (all-reached input octets same (omega (arith, short)))) whole;
     stop = open-stop [] grammar.nothing;
     is = rw (grammar.nothing, same, lt-ltb (length octets) (2 ^ 40) short) refl;
   }
@@ -138,49 +174,50 @@ module _ {X : Type 0} (line_at : List ℕ → LineAt X) (grammar : IsGrammar lin
   pub stopped-bad : (seen : Seen) (input octets : List ℕ) (lines : List X) (kind : Kind) → Given seen input → IsRefused line_at seen octets lines kind
       → Stopped input lines (BadLine (length lines + 1) kind)
   stopped-bad seen input octets lines kind g (inl r) =
-      let same = front seen.left_before seen.left_after input g.rest octets g.before g.after r.0 in
-      let refused = refused-more line_at r.1.0 g.rest kind grammar r.1.2 in
+      let more = take (2 ^ 40 - length octets) g.rest in
+      let same = reach-front input octets g.rest (front seen input octets g r.0) r.1 in
+      let refused = refused-more line_at r.2.0 more kind grammar r.2.2 in
       record {
-        rest = r.1.0 ++ g.rest;
-        begins = subst (λ os. Begins line_at os lines (r.1.0 ++ g.rest)) (sym same) (begins-more line_at octets lines r.1.0 g.rest grammar r.1.1);
+        rest = r.2.0 ++ more;
+        begins = subst (λ os. Begins line_at os lines (r.2.0 ++ more)) (sym same) (begins-more line_at octets lines r.2.0 more grammar r.2.1);
         stop = λ line rest whole. let e : Refused kind ≡ Line line rest = sym refused ∙ whole in cc;
         is = rw refused refl;
       }
   stopped-bad seen input octets lines kind g (inr r) =
-      let same = all seen input g.rest octets g.before g.after r.1 in
+      let same = all seen input octets g r.1 in
       record {
         rest = r.3.0;
-        begins = subst (λ os. Begins line_at os lines r.3.0) (sym same) r.3.1;
+        begins = subst (λ os. Begins line_at os lines r.3.0) (sym (all-reached input octets same (omega (arith, r.2)))) r.3.1;
         stop = open-stop r.3.0 r.3.2;
         is = rw (r.3.2, same, lt-ltb (length octets) (2 ^ 40) r.2, lt-ltb 0 (length r.3.0) r.3.3) (ap (λ k. BadLine (length lines + 1) k) r.0);
       }
 
-  pub stopped-long : (seen : Seen) (input octets : List ℕ) (lines : List X) → Given seen input → length input ≤ 2 ^ 40
+  pub stopped-long : (seen : Seen) (input octets : List ℕ) (lines : List X) → Given seen input
       → Took seen octets → EndOpen line_at octets lines → length octets ≡ 2 ^ 40 → Stopped input lines TooLong
-  stopped-long seen input octets lines g short took ends long =
-      let same = front seen.left_before seen.left_after input g.rest octets g.before g.after took in
-      let none = nothing-left g.rest (omega (arith, short, long, ap length same, length-append octets g.rest)) in
-      let is : input ≡ octets = same ∙ ap (λ r. octets ++ r) none ∙ append-nil octets in
-      record { rest = ends.0; begins = subst (λ os. Begins line_at os lines ends.0) (sym is) ends.1; stop = open-stop ends.0 ends.2; is = rw (ends.2, is, long) refl }
+  stopped-long seen input octets lines g took ends long =
+      let parts = front seen input octets g took in
+      let not_short : nat_lt (length input) (2 ^ 40) ≡ false = le-ltb (length input) (2 ^ 40) (omega (arith, long, ap length parts, length-append octets g.rest)) in
+      record {
+        rest = ends.0;
+        begins = subst (λ os. Begins line_at os lines ends.0) (sym (limit-reached input octets g.rest parts long)) ends.1;
+        stop = open-stop ends.0 ends.2;
+        is = rw (ends.2, not_short) refl;
+      }
 
-  pub stopped : (text_of : List X → List ℕ) (seen : Seen) (input : List ℕ) (outcome : Outcome) → Given seen input → length input ≤ 2 ^ 40
+  pub stopped : (text_of : List X → List ℕ) (seen : Seen) (input : List ℕ) (outcome : Outcome) → Given seen input
       → Converted line_at text_of seen outcome → IsSettled outcome → (lines : List X) × Stopped input lines outcome
-  stopped text_of seen input Done g short c s = (c.1, stopped-done input c.0 c.1 (all seen input g.rest c.0 g.before g.after c.2) c.4 c.3)
-  stopped text_of seen input ReadFault g short c s = absurd (s.reads refl)
-  stopped text_of seen input WriteFault g short c s = absurd (s.writes refl)
-  stopped text_of seen input NoMemory g short c s = absurd (s.memory refl)
-  stopped text_of seen input (BadLine number kind) g short c s =
+  stopped text_of seen input Done g c s = (c.1, stopped-done input c.0 c.1 (all seen input c.0 g c.2) c.4 c.3)
+  stopped text_of seen input ReadFault g c s = absurd (s.reads refl)
+  stopped text_of seen input WriteFault g c s = absurd (s.writes refl)
+  stopped text_of seen input (BadLine number kind) g c s =
       (c.1, subst (λ n. Stopped input c.1 (BadLine n kind)) (sym c.2) (stopped-bad seen input c.0 c.1 kind g c.3))
-  stopped text_of seen input (BadHeader bad) g short c s = absurd c
-  stopped text_of seen input (TooTight frame) g short c s = absurd c
-  stopped text_of seen input (Cut over) g short c s = absurd c
-  stopped text_of seen input NotAligned g short c s = absurd c
-  stopped text_of seen input TooLong g short c s = (c.1, stopped-long seen input c.0 c.1 g short c.2 c.4 c.3)
+  stopped text_of seen input TooLong g c s = (c.1, stopped-long seen input c.0 c.1 g c.2 c.4 c.3)
+  stopped text_of seen input outcome g c s = absurd c
 
   pub lines-decide : LinesDecide line_at
-  lines-decide text_of input short one other first second g h a b s t =
-      let x = stopped text_of one input first g short a s in
-      let y = stopped text_of other input second h short b t in
+  lines-decide text_of input one other first second g h a b s t =
+      let x = stopped text_of one input first g a s in
+      let y = stopped text_of other input second h b t in
       one-stop input x.0 y.0 first second x.1 y.1
 
 -- ---- of beats
@@ -230,7 +267,7 @@ module _ {X : Type 0} (at : List ℕ → FrontAt X) (stays : Stays at) (text : T
     ended : (header : X) (beats : List (List ℕ)) (over : ℕ) (outcome : Outcome) → TookAllBeatsBy at before limit header seen beats over
         → outcome ≡ outcome_at_end over ((text header).is_aligned beats) → Behind (before ++ input) outcome
     ended header beats over outcome t is =
-        let same : before ++ t.got ≡ before ++ input = ap (λ os. before ++ os) (sym (all seen input g.rest t.got g.before g.after t.took)) in
+        let same : before ++ t.got ≡ before ++ input = ap (λ os. before ++ os) (sym (all seen input t.got g t.took)) in
         inl (record {
           header = header;
           beats = beats;
@@ -245,15 +282,11 @@ module _ {X : Type 0} (at : List ℕ → FrontAt X) (stays : Stays at) (text : T
     behind header Done d s = ended header d.0 0 Done d.1 (rw d.2 refl)
     behind header ReadFault d s = absurd (s.reads refl)
     behind header WriteFault d s = absurd (s.writes refl)
-    behind header NoMemory d s = absurd (s.memory refl)
-    behind header (BadLine number kind) d s = absurd d
-    behind header (BadHeader bad) d s = absurd d
-    behind header (TooTight frame) d s = absurd d
     behind header (Cut rest) d s = ended header d.0 rest (Cut rest) d.2 (rw (lt-ltb 0 rest d.1) refl)
     behind header NotAligned d s = ended header d.0 0 NotAligned d.1 (rw d.2 refl)
     behind header TooLong d s =
         let t = d.2 in
-        let same = front seen.left_before seen.left_after input g.rest t.got g.before g.after t.took in
+        let same = front seen input t.got g t.took in
         let parts : before ++ input ≡ (before ++ t.got) ++ g.rest = ap (λ os. before ++ os) same ∙ sym (append_assoc before t.got g.rest) in
         inr (record {
           header = header;
@@ -262,6 +295,7 @@ module _ {X : Type 0} (at : List ℕ → FrontAt X) (stays : Stays at) (text : T
           long = omega (arith, ap length parts, length-append (before ++ t.got) g.rest, d.3);
           is = refl;
         })
+    behind header outcome d s = absurd d
 
 -- behind a header that was read before
 pub beats-decide : {X : Type 0} (at : List ℕ → FrontAt X) → Stays at → BeatsDecide at
@@ -277,11 +311,11 @@ module _ {X : Type 0} (at : List ℕ → FrontAt X) (stays : Stays at) (text : T
 
   no-header : (seen : Seen) (input : List ℕ) (bad : Refusal) → Given seen input → IsNoHeaderBy at seen bad → NoHeader at stays text (2 ^ 40) input (BadHeader bad)
   no-header seen input bad g (octets, inl (took, wrong, few)) =
-      let same = front seen.left_before seen.left_after input g.rest octets g.before g.after took in
+      let same = front seen input octets g took in
       let is = ap at same ∙ wrong-more at octets g.rest bad stays wrong in
       record { none = λ header rest whole. let e : Wrong bad ≡ Whole header rest = sym is ∙ whole in cc; is = rw is refl }
   no-header seen input bad g (octets, inr (cut, took, low, short)) =
-      let same = all seen input g.rest octets g.before g.after took in
+      let same = all seen input octets g took in
       let is = ap at same ∙ short in
       record { none = λ header rest whole. let e : Short ≡ Whole header rest = sym is ∙ whole in cc; is = rw (is, same) (ap (λ b. BadHeader b) cut) }
 
@@ -290,12 +324,11 @@ module _ {X : Type 0} (at : List ℕ → FrontAt X) (stays : Stays at) (text : T
   found seen input ReadFault g c s = absurd (s.reads refl)
   found seen input WriteFault g c s = absurd (s.writes refl)
   found seen input NoMemory g c s = absurd (s.memory refl)
-  found seen input (BadLine number kind) g c s = absurd c
   found seen input (BadHeader bad) g c s = inr (no-header seen input bad g c.0)
-  found seen input (TooTight frame) g c s = absurd c
   found seen input (Cut rest) g c s = inl (behind at stays text (2 ^ 40) seen [] input g c.0 (Cut rest) c.1 s)
   found seen input NotAligned g c s = inl (behind at stays text (2 ^ 40) seen [] input g c.0 NotAligned c.1 s)
   found seen input TooLong g c s = inl (behind at stays text (2 ^ 40) seen [] input g c.0 TooLong c.1 s)
+  found seen input outcome g c s = absurd c
 
   not-both : (input : List ℕ) (first second : Outcome) → Behind at stays text (2 ^ 40) input first → NoHeader at stays text (2 ^ 40) input second → ⊥
   not-both input first second (inl e) n = n.none e.header e.whole.1.0 e.whole.1.1

@@ -3,11 +3,10 @@ use Rattle.std.proofs.Common.{◌≡◌, ℕ, ◌<◌, ◌≤◌, Bool, true, fa
 use Rattle.std.specs.Prelude.{◌⊎◌, IsSome}
 use Rattle.std.specs.List.{AllByRecursion}
 use Rattle.std.proofs.lemmas.Bool.{cases_lt, lt-ltb}
-use Rattle.std.specs.Io.KnownBytes.{Consumes}
 use Rattle.pcs_io.specs.Faults.{Rose}
 use Rattle.pcs_io.specs.Grammars.{Begins}
 use Rattle.pcs_io.specs.Beats.{beat_at}
-use Rattle.pcs_io.specs.Octets.{TakesWhereTold, AppendsFront}
+use Rattle.pcs_io.specs.Octets.{Told, Gives, TakesWhereTold, AppendsFront}
 use Rattle.pcs_io.specs.Captures.{FrontAt, History, BeatsState, Stands, StandsAt, course_of, Going, Failed, OpensBy, OpensWholeBy, TellsBy, PassesBy, BeatAnswersBy, header_read, beat_told, whole_front}
 use Rattle.pcs_io.specs.declared.beats.Front.{Front}
 use Rattle.pcs_io.specs.declared.beats.Front.TheVariants as front
@@ -18,7 +17,7 @@ use Rattle.pcs_io.specs.declared.beats.CapFault.TheVariants as fault
 use Rattle.pcs_io.specs.declared.reader.Standing.{Standing}
 use Rattle.pcs_io.specs.declared.reader.Standing.TheVariants as standing
 use Rattle.pcs_io.specs.declared.fault.InFault.TheVariants as in_fault
-use Rattle.pcs_io.proofs.Told.{consumes-append, consumes-none, takes-after, takes-consumed}
+use Rattle.pcs_io.proofs.Told.{gives-append, gives-none, takes-after, takes-consumed}
 use Rattle.pcs_io.proofs.BeatPieces.{is-piece, pieces-split}
 use Rattle.pcs_drive.specs.Seen.{Seen, Took, Written, ReadFailed, WriteFailed}
 use Rattle.pcs_drive.specs.Outcomes.{outcome_of_capture}
@@ -46,16 +45,16 @@ module _ {T X : Type 0} (Keeps : Meaning T) (at : List ℕ → FrontAt X) (h : H
   reading got beats = record h { octets = h.octets ++ got; beats = beats }
 
   -- The reader goes on behind the beats that it answered, the task took them, and its text is written but what is pending.
-  pub record Reading (b : BeatsState) (task : T) (before now start held : Option (List ℕ)) (pending : List ℕ) : Type 0 where
+  pub record Reading (b : BeatsState) (task : T) (before now : Told) (start held : Option (List ℕ)) (pending : List ℕ) : Type 0 where
     pub got : List ℕ
     pub beats : List (List ℕ)
     pub rest : List ℕ
     pub stands : Stands b (reading got beats)
-    pub took : Consumes before now got
+    pub took : Gives before now got
     pub opens : OpensBy at (h.octets ++ got) header beats rest
     pub put : HasPut Keeps task text beats start held pending
 
-  pub reading-start : (read_as : X → Front) (b : BeatsState) (task : T) (before start held : Option (List ℕ)) (pending : List ℕ) → HasHeaderBy at read_as b h header
+  pub reading-start : (read_as : X → Front) (b : BeatsState) (task : T) (before : Told) (start held : Option (List ℕ)) (pending : List ℕ) → HasHeaderBy at read_as b h header
       → HasPut Keeps task text [] start held pending → Reading b task before before start held pending
   reading-start read_as b task before start held pending has put =
       let same : h.octets ≡ h.octets ++ [] = sym (append-nil h.octets) in
@@ -64,13 +63,13 @@ module _ {T X : Type 0} (Keeps : Meaning T) (at : List ℕ → FrontAt X) (h : H
         beats = [];
         rest = has.begins.0;
         stands = subst (λ o. Stands b (record h { octets = o; beats = [] })) same (subst (λ bs. Stands b (record h { beats = bs })) has.none has.stands);
-        took = consumes-none before;
+        took = gives-none before;
         opens = subst (λ o. OpensBy at o header [] has.begins.0) same has.begins.1;
         put = put;
       }
 
   -- what is pending may be written at any time
-  pub reading-kept : (b : BeatsState) (task : T) (before now start held held_now : Option (List ℕ)) (pending more : List ℕ)
+  pub reading-kept : (b : BeatsState) (task : T) (before now : Told) (start held held_now : Option (List ℕ)) (pending more : List ℕ)
       → Reading b task before now start held pending → Stays held pending held_now more → Reading b task before now start held_now more
   reading-kept b task before now start held held_now pending more r kept = record {
     got = r.got;
@@ -83,7 +82,7 @@ module _ {T X : Type 0} (Keeps : Meaning T) (at : List ℕ → FrontAt X) (h : H
   }
 
   -- All the beats among the octets that the reader held are taken at once.
-  module _ (going : h.course ≡ Going) (old new : BeatsState) (task task_now : T) (before now start held held_now : Option (List ℕ)) (pending more octets : List ℕ)
+  module _ (going : h.course ≡ Going) (old new : BeatsState) (task task_now : T) (before now : Told) (start held held_now : Option (List ℕ)) (pending more octets : List ℕ)
       (r : Reading old task before now start held pending) (is : octets ≡ whole_front old.reader.buffer.unused) where
     pub reading-all : ((k : History) → Stands old k → k.course ≡ Going → PassesBy at old.reader.buffer.unused k header new)
         → TakesBeats Keeps task task_now octets held pending held_now more → Reading new task_now before now start held_now more
@@ -100,47 +99,50 @@ module _ {T X : Type 0} (Keeps : Meaning T) (at : List ℕ → FrontAt X) (h : H
         }
 
   -- A write failed behind beats.
-  failed : (seen : Seen) (beats : List (List ℕ)) (got rest : List ℕ) → WriteFailed seen → Took seen got → OpensBy at (h.octets ++ got) header beats rest
+  failed : (seen : Seen) (beats : List (List ℕ)) (got rest : List ℕ) → WriteFailed seen → Took seen got → length (h.octets ++ got) ≤ h.limit → OpensBy at (h.octets ++ got) header beats rest
       → AppendsFront seen.held_before seen.held_after (text.so_far beats) → FromBeatsBy at text h.octets h.limit header seen WriteFault
-  failed seen beats got rest rose took opens front = (beats, rose, inl (got, rest, took, opens, front))
+  failed seen beats got rest rose took within opens front = (beats, rose, inl (got, rest, took, within, opens, front))
 
   pub all-failed : (going : h.course ≡ Going) (seen : Seen) (old new : BeatsState) (task : T) (held : Option (List ℕ)) (pending octets : List ℕ)
-      (r : Reading old task seen.left_before seen.left_after seen.held_before held pending) (is : octets ≡ whole_front old.reader.buffer.unused)
+      (r : Reading old task seen.told_before seen.told_after seen.held_before held pending) (is : octets ≡ whole_front old.reader.buffer.unused)
       → ((k : History) → Stands old k → k.course ≡ Going → PassesBy at old.reader.buffer.unused k header new)
       → WriteFailed seen → BreaksAtBeats Keeps task octets held pending seen.held_after → FromBeatsBy at text h.octets h.limit header seen WriteFault
   all-failed going seen old new task held pending octets r is passes rose breaks =
       let p = passes (reading r.got r.beats) r.stands going in
-      failed seen (r.beats ++ p.0) r.got p.2.0 rose (takes-consumed seen.left_before seen.left_after r.got r.took) p.2.1
+      failed seen (r.beats ++ p.0) r.got p.2.0 rose (takes-consumed seen.told_before seen.told_after r.got r.took) r.stands.read.within p.2.1
       (breaks text r.beats p.0 seen.held_before (record { joined = p.1 ∙ sym is; each = later-sixteens at (h.octets ++ r.got) header r.beats p.0 p.2.0 p.2.1 }) r.put)
 
   pub kept-failed : (seen : Seen) (b : BeatsState) (task : T) (held : Option (List ℕ)) (pending : List ℕ)
-      → Reading b task seen.left_before seen.left_after seen.held_before held pending → WriteFailed seen
+      → Reading b task seen.told_before seen.told_after seen.held_before held pending → WriteFailed seen
       → BreaksOffBefore held pending seen.held_after → FromBeatsBy at text h.octets h.limit header seen WriteFault
   kept-failed seen b task held pending r rose breaks =
-      failed seen r.beats r.got r.rest rose (takes-consumed seen.left_before seen.left_after r.got r.took) r.opens
+      failed seen r.beats r.got r.rest rose (takes-consumed seen.told_before seen.told_after r.got r.took) r.stands.read.within r.opens
       (breaks seen.held_before (text.so_far r.beats) r.put.wrote)
 
   -- A call of `next`.
-  module _ (going : h.course ≡ Going) (seen : Seen) (old new : BeatsState) (task : T) (mid held : Option (List ℕ)) (pending : List ℕ)
-      (r : Reading old task seen.left_before mid seen.held_before held pending) (answer : Result BeatIn CapFault)
-      (tells : (k : History) → Stands old k → TellsBy at k.course k header old new mid seen.left_after seen.ended answer) where
-    abbrev Told : Result BeatIn CapFault → Type 0
-    Told a =
-        (got : List ℕ) × BeatAnswersBy at (reading r.got r.beats) header got mid seen.left_after seen.ended a
+  module _ (going : h.course ≡ Going) (seen : Seen) (old new : BeatsState) (task : T) (mid : Told) (held : Option (List ℕ)) (pending : List ℕ)
+      (r : Reading old task seen.told_before mid seen.held_before held pending) (answer : Result BeatIn CapFault)
+      (tells : (k : History) → Stands old k → TellsBy at k.course k header old new mid seen.told_after seen.ended answer) where
+    abbrev Answered : Result BeatIn CapFault → Type 0
+    Answered a =
+        (got : List ℕ) × BeatAnswersBy at (reading r.got r.beats) header got mid seen.told_after seen.ended a
         × Stands new (beat_told (reading r.got r.beats) got a)
 
-    told : (a : Result BeatIn CapFault) → answer ≡ a → Told a
+    told : (a : Result BeatIn CapFault) → answer ≡ a → Answered a
     told a is =
-        subst Told is
-        (subst (λ course. TellsBy at course (reading r.got r.beats) header old new mid seen.left_after seen.ended answer) going (tells (reading r.got r.beats) r.stands))
+        subst Answered is
+        (subst (λ course. TellsBy at course (reading r.got r.beats) header old new mid seen.told_after seen.ended answer) going (tells (reading r.got r.beats) r.stands))
 
     behind : (got : List ℕ) → (h.octets ++ r.got) ++ got ≡ h.octets ++ (r.got ++ got)
     behind got = append_assoc h.octets r.got got
 
+    within : (got : List ℕ) → length ((h.octets ++ r.got) ++ got) ≤ h.limit → length (h.octets ++ (r.got ++ got)) ≤ h.limit
+    within got few = subst (λ o. length o ≤ h.limit) (behind got) few
+
     -- a beat came, and the task took it
     pub reading-beat : (beat : List ℕ) (task_now : T) (held_now : Option (List ℕ)) (more : List ℕ) → answer ≡ Ok (Beat beat)
         → TakesBeat Keeps task task_now beat held pending held_now more
-        → Reading new task_now seen.left_before seen.left_after seen.held_before held_now more
+        → Reading new task_now seen.told_before seen.told_after seen.held_before held_now more
     reading-beat beat task_now held_now more is takes =
         let t = told (Ok (Beat beat)) is in
         record {
@@ -148,7 +150,7 @@ module _ {T X : Type 0} (Keeps : Meaning T) (at : List ℕ → FrontAt X) (h : H
           beats = r.beats ++ beat ∷ [];
           rest = t.1.1;
           stands = subst (λ o. Stands new (record h { octets = o; beats = r.beats ++ beat ∷ [] })) (behind t.0) t.2;
-          took = consumes-append seen.left_before mid seen.left_after r.got t.0 r.took t.1.0;
+          took = gives-append seen.told_before mid seen.told_after r.got t.0 r.took t.1.0;
           opens = subst (λ o. OpensBy at o header (r.beats ++ beat ∷ []) t.1.1) (behind t.0) t.1.2;
           put = takes text r.beats seen.held_before r.put;
         }
@@ -158,8 +160,8 @@ module _ {T X : Type 0} (Keeps : Meaning T) (at : List ℕ → FrontAt X) (h : H
     beat-failed beat is rose breaks =
         let t = told (Ok (Beat beat)) is in
         failed seen (r.beats ++ beat ∷ []) (r.got ++ t.0) t.1.1 rose
-        (takes-consumed seen.left_before seen.left_after (r.got ++ t.0) (consumes-append seen.left_before mid seen.left_after r.got t.0 r.took t.1.0))
-        (subst (λ o. OpensBy at o header (r.beats ++ beat ∷ []) t.1.1) (behind t.0) t.1.2) (breaks text r.beats seen.held_before r.put)
+        (takes-consumed seen.told_before seen.told_after (r.got ++ t.0) (gives-append seen.told_before mid seen.told_after r.got t.0 r.took t.1.0))
+        (within t.0 t.2.read.within) (subst (λ o. OpensBy at o header (r.beats ++ beat ∷ []) t.1.1) (behind t.0) t.1.2) (breaks text r.beats seen.held_before r.put)
 
     -- all of the input was taken
     took-all : (rest : ℕ) → answer ≡ Ok (End rest) → TookAllBeatsBy at h.octets h.limit header seen r.beats rest
@@ -168,7 +170,7 @@ module _ {T X : Type 0} (Keeps : Meaning T) (at : List ℕ → FrontAt X) (h : H
         record {
           got = r.got ++ t.0;
           took = record {
-            took = takes-after seen.left_before mid seen.left_after r.got t.0 r.took t.1.0.source;
+            took = takes-after seen.told_before mid seen.told_after r.got t.0 r.took t.1.0.source;
             nothing = t.1.0.nothing;
             ended = t.1.0.over;
           };
@@ -217,21 +219,22 @@ module _ {T X : Type 0} (Keeps : Meaning T) (at : List ℕ → FrontAt X) (h : H
         all-written seen.held_before seen.held_after (text.so_far r.beats)
         (wrote-all seen.held_before seen.held_after (text.so_far r.beats) (flushed seen.held_before (text.so_far r.beats) r.put.wrote))
 
-    took-more : (got : List ℕ) → TakesWhereTold mid seen.left_after got → Took seen (r.got ++ got)
-    took-more got takes = takes-after seen.left_before mid seen.left_after r.got got r.took takes
+    took-more : (got : List ℕ) → TakesWhereTold mid seen.told_after got → Took seen (r.got ++ got)
+    took-more got takes = takes-after seen.told_before mid seen.told_after r.got got r.took takes
 
     -- a fault came
     pub reading-fault : (why : CapFault) → answer ≡ Err why → (why ≡ fault.Read → ReadFailed seen) → Stays held pending seen.held_after []
         → FromBeatsBy at text h.octets h.limit header seen (outcome_of_capture why)
     reading-fault why is rose flushed = by why (told (Err why) is) rose
       where
-        by : (why : CapFault) → Told (Err why) → (why ≡ fault.Read → ReadFailed seen)
+        by : (why : CapFault) → Answered (Err why) → (why ≡ fault.Read → ReadFailed seen)
             → FromBeatsBy at text h.octets h.limit header seen (outcome_of_capture why)
         by fault.Read t rose = (
           r.beats,
           t.1.1,
           rose refl,
           record { got = r.got ++ t.0; took = took-more t.0 t.1.0; whole = subst (λ o. OpensWholeBy at o header r.beats t.1.1) (behind t.0) t.1.2 },
+          within t.0 t.2.read.within,
           text-written flushed,
         )
         by (fault.BadHeader bad) t rose = absurd t.1
@@ -240,7 +243,7 @@ module _ {T X : Type 0} (Keeps : Meaning T) (at : List ℕ → FrontAt X) (h : H
           t.1.2,
           record {
             got = r.got ++ t.0;
-            took = took-more t.0 (takes-consumed mid seen.left_after t.0 t.1.0);
+            took = took-more t.0 (takes-consumed mid seen.told_after t.0 t.1.0);
             whole = subst (λ o. OpensWholeBy at o header r.beats t.1.2) (behind t.0) t.1.3;
           },
           subst (λ o. length o ≡ h.limit) (behind t.0) t.1.1,
@@ -255,12 +258,12 @@ module _ {T X : Type 0} (Keeps : Meaning T) (at : List ℕ → FrontAt X) (h : H
         front : AppendsFront seen.held_before seen.held_after (text.so_far r.beats)
         front = breaks seen.held_before (text.so_far r.beats) r.put.wrote
 
-        by : (why : CapFault) → Told (Err why) → FromBeatsBy at text h.octets h.limit header seen WriteFault
+        by : (why : CapFault) → Answered (Err why) → FromBeatsBy at text h.octets h.limit header seen WriteFault
         by fault.Read t =
-            failed seen r.beats (r.got ++ t.0) t.1.2.0 rose (took-more t.0 t.1.0) (subst (λ o. OpensBy at o header r.beats t.1.2.0) (behind t.0) t.1.2.1) front
+            failed seen r.beats (r.got ++ t.0) t.1.2.0 rose (took-more t.0 t.1.0) (within t.0 t.2.read.within) (subst (λ o. OpensBy at o header r.beats t.1.2.0) (behind t.0) t.1.2.1) front
         by (fault.BadHeader bad) t = absurd t.1
         by fault.TooLong t =
-            failed seen r.beats (r.got ++ t.0) t.1.3.0 rose (took-more t.0 (takes-consumed mid seen.left_after t.0 t.1.0))
+            failed seen r.beats (r.got ++ t.0) t.1.3.0 rose (took-more t.0 (takes-consumed mid seen.told_after t.0 t.1.0)) (within t.0 t.2.read.within)
             (subst (λ o. OpensBy at o header r.beats t.1.3.0) (behind t.0) t.1.3.1) front
 
 -- A reader that goes on answered no fault.

@@ -1,10 +1,10 @@
 -- Lines that a task takes, named by the parsers that had them.
 use Rattle.std.proofs.Common.{◌≡◌, ℕ, ◌^◌, List, [], ◌∷◌, ◌++◌, map, Option, ap, sym, subst, refl, ◌∙◌}
 use Rattle.std.proofs.lemmas.List.{map-append}
-use Rattle.pcs_io.specs.Octets.{AppendsFront}
+use Rattle.pcs_io.specs.Octets.{Told, AppendsFront}
 use Rattle.pcs_io.specs.Grammars.{LineAt}
 use Rattle.pcs_io.specs.Histories.{ReaderState, Stands, opened}
-use Rattle.pcs_io.proofs.Told.{consumes-none}
+use Rattle.pcs_io.proofs.Told.{gives-none}
 use Rattle.pcs_drive.specs.Writing.{Wrote, Puts, BreaksOff}
 use Rattle.pcs_drive.specs.LineTasks.{IsTextOf, TakesLine, PutsLine, BreaksAtLine, by_lines, KeepsLines}
 use Rattle.pcs_drive.proofs.Copying.{Copied, opened-near}
@@ -14,7 +14,7 @@ abbrev pub Kept : {T P X : Type 0} → (T → List P → Type 0) → (P → X) �
 Kept {T} {P} Keeps line task lines = (parsers : List P) × (map line parsers ≡ lines) × Keeps task parsers
 
 module _ {T P X : Type 0} (Keeps : T → List P → Type 0) (line : P → X) where
-  pub driven-start : (line_at : List ℕ → LineAt X) (text_of : List X → List ℕ) (task : T) (reader : ReaderState P) (before start held : Option (List ℕ)) (pending : List ℕ)
+  pub driven-start : (line_at : List ℕ → LineAt X) (text_of : List X → List ℕ) (task : T) (reader : ReaderState P) (before : Told) (start held : Option (List ℕ)) (pending : List ℕ)
       → Stands line_at reader (opened (2 ^ 40)) → Keeps task [] → Wrote start held (text_of []) pending
       → Copied line_at text_of (Kept Keeps line task) reader before before start held pending
   driven-start line_at text_of task reader before start held pending stands keeps wrote = record {
@@ -22,7 +22,7 @@ module _ {T P X : Type 0} (Keeps : T → List P → Type 0) (line : P → X) whe
     answered = [];
     stands = stands;
     near = opened-near line_at reader stands;
-    took = consumes-none before;
+    took = gives-none before;
     wrote = wrote;
     keeps = ([], refl, keeps);
   }

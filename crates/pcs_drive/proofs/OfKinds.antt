@@ -1,5 +1,6 @@
 -- What a reader's calls tell, for either kind of file.
 use Rattle.std.proofs.Common.{◌≡◌, ℕ, ◌/◌, Bool, List, length, refl, Option, Result}
+use Rattle.pcs_io.specs.Octets.{Told}
 use Rattle.pcs_io.specs.Captures.{History, BeatsState, Stands, Going, Tells, TellsBy, Passes, PassesBy, levels_header_at}
 use Rattle.pcs_io.specs.declared.header.Header.{Header}
 use Rattle.pcs_io.specs.declared.levels_header.LevelsHeader.{LevelsHeader}
@@ -26,7 +27,7 @@ beats-passed-of Captures header x read k s going = beats-passed x (length x.read
 beats-passed-of LevelFiles header x read k s going = level-beats-passed x (length x.reader.buffer.unused / 16) refl k header s read going
 
 -- a call of `next`
-pub tells-of : (kind : FileKind) (header : HeaderOf kind) (old new : BeatsState) (before now : Option (List ℕ)) (ended : Bool) (answer : Result BeatIn CapFault)
+pub tells-of : (kind : FileKind) (header : HeaderOf kind) (old new : BeatsState) (before now : Told) (ended : Bool) (answer : Result BeatIn CapFault)
     → old.front ≡ front_of kind header
     → ((k : History) (header : Header) → Stands old k → old.front ≡ front.Read header → Tells k.course k header old new before now ended answer)
     → ((k : History) (header : LevelsHeader) → Stands old k → old.front ≡ front.ReadLevels header

@@ -1,10 +1,9 @@
 -- A command that turns a header and the beats behind it into octets: what it answers, when, and what stands written. It reads a capture or a
 -- file of levels. A definition whose name ends in `By` takes what says which header some octets begin with.
 use Rattle.std.specs.Prelude.{◌≡◌, ℕ, ◌^◌, ◌<◌, ◌≤◌, ◌⊎◌, Bool, true, false, nat_lt, if◌then◌else◌, List, [], ◌++◌, length, Option, Result, Ok, Err}
-use Rattle.std.specs.Io.KnownBytes.{Consumes}
-use Rattle.pcs_io.specs.Octets.{AppendsFront}
+use Rattle.pcs_io.specs.Octets.{Told, Gives, AppendsFront}
 use Rattle.pcs_io.specs.Histories.{octets_ahead}
-use Rattle.pcs_io.specs.Captures.{History, BeatsState, Stands, Going, FrontAt, header_at, levels_header_at, Wrong, Short, OpensBy, OpensWholeBy}
+use Rattle.pcs_io.specs.Captures.{History, BeatsState, Stands, Going, FrontAt, header_at, levels_header_at, Whole, Wrong, Short, OpensBy, OpensWholeBy}
 use Rattle.pcs_io.specs.declared.source.Failed.{Failed}
 use Rattle.pcs_io.specs.declared.header.Header.{Header}
 use Rattle.pcs_io.specs.declared.header.BadHeader.{BadHeader as Refusal}
@@ -13,7 +12,7 @@ use Rattle.pcs_io.specs.declared.beats.Front.{Front}
 use Rattle.pcs_io.specs.declared.beats.Front.TheVariants as front
 use Rattle.pcs_drive.specs.Seen.{Seen, Took, TookAll, Written, ReadFailed, WriteFailed}
 use Rattle.pcs_drive.specs.declared.outcome.Outcome.{Outcome}
-use Rattle.pcs_drive.specs.declared.outcome.Outcome.TheVariants.{Done, ReadFault, WriteFault, NoMemory, BadLine, BadHeader, TooTight, Cut, NotAligned, TooLong}
+use Rattle.pcs_drive.specs.declared.outcome.Outcome.TheVariants.{Done, ReadFault, WriteFault, NoMemory, BadHeader, Cut, NotAligned, TooLong}
 
 -- what a command makes of beats: the text so far, the whole text at the end of the input, and whether the lanes were aligned (true where
 -- the command doesn't ask for that)
@@ -48,22 +47,20 @@ pub record TookAllBeatsBy {X : Type 0} (at : List ℕ → FrontAt X) (before : L
 -- A write failed: a front of the text so far is written, or of the whole text where the input has ended.
 abbrev pub BrokeOffBy : {X : Type 0} → (List ℕ → FrontAt X) → BeatsText → List ℕ → ℕ → X → Seen → List (List ℕ) → Type 0
 BrokeOffBy at text before limit header seen beats =
-    ((got rest : List ℕ) × Took seen got × OpensBy at (before ++ got) header beats rest × AppendsFront seen.held_before seen.held_after (text.so_far beats))
+    ((got rest : List ℕ) × Took seen got × (length (before ++ got) ≤ limit)
+    × OpensBy at (before ++ got) header beats rest × AppendsFront seen.held_before seen.held_after (text.so_far beats))
     ⊎ ((over : ℕ) × TookAllBeatsBy at before limit header seen beats over × AppendsFront seen.held_before seen.held_after (text.whole beats))
 
 -- Behind the header each answer has its own condition, of the octets taken and the beats in front of them. `before` was taken and not
--- answered before, the header among it, and `limit` is that of the reader.
+-- answered before, the header among it, and `limit` is that of the reader, above which nothing is taken. No other answer is given.
 abbrev pub FromBeatsBy : {X : Type 0} → (List ℕ → FrontAt X) → BeatsText → List ℕ → ℕ → X → Seen → Outcome → Type 0
 FromBeatsBy at text before limit header seen Done =
     (beats : List (List ℕ)) × TookAllBeatsBy at before limit header seen beats 0 × (text.is_aligned beats ≡ true) × Written seen (text.whole beats)
 FromBeatsBy at text before limit header seen ReadFault =
-    (beats : List (List ℕ)) × (over : ℕ) × ReadFailed seen × TookBeatsBy at before header seen beats over × Written seen (text.so_far beats)
+    (beats : List (List ℕ)) × (over : ℕ) × ReadFailed seen × (taken : TookBeatsBy at before header seen beats over) × (length (before ++ taken.got) ≤ limit)
+    × Written seen (text.so_far beats)
 FromBeatsBy at text before limit header seen WriteFault =
     (beats : List (List ℕ)) × WriteFailed seen × BrokeOffBy at text before limit header seen beats
-FromBeatsBy at text before limit header seen NoMemory = ⊥
-FromBeatsBy at text before limit header seen (BadLine number kind) = ⊥
-FromBeatsBy at text before limit header seen (BadHeader bad) = ⊥
-FromBeatsBy at text before limit header seen (TooTight frame) = ⊥
 FromBeatsBy at text before limit header seen (Cut rest) =
     (beats : List (List ℕ)) × (0 < rest) × TookAllBeatsBy at before limit header seen beats rest × Written seen (text.whole beats)
 FromBeatsBy at text before limit header seen NotAligned =
@@ -71,6 +68,7 @@ FromBeatsBy at text before limit header seen NotAligned =
 FromBeatsBy at text before limit header seen TooLong =
     (beats : List (List ℕ)) × (over : ℕ) × (taken : TookBeatsBy at before header seen beats over) × (length (before ++ taken.got) ≡ limit)
     × Written seen (text.so_far beats)
+FromBeatsBy at text before limit header seen outcome = ⊥
 
 -- where a write fails, the answer is that
 abbrev pub FromBeatsOrBy : {X : Type 0} → (List ℕ → FrontAt X) → BeatsText → List ℕ → ℕ → X → Seen → Result Outcome Failed → Type 0
@@ -95,19 +93,23 @@ IsNoHeaderBy at seen bad =
 abbrev pub BehindHeaderBy : {X : Type 0} → (List ℕ → FrontAt X) → TextBehind X → Seen → Outcome → Type 0
 BehindHeaderBy {X} at text seen outcome = (header : X) × FromBeatsBy at (text header) [] (2 ^ 40) header seen outcome
 
--- The answers of a command on a whole file. Memory is taken before the first beat is answered.
+-- Nothing was taken, or a header and no more than a buffer behind it.
+abbrev pub TookHeaderBy : {X : Type 0} → (List ℕ → FrontAt X) → Seen → Type 0
+TookHeaderBy {X} at seen =
+    (octets : List ℕ) × Took seen octets × (length octets < 65600) × ((octets ≡ []) ⊎ ((header : X) × (rest : List ℕ) × (at octets ≡ Whole header rest)))
+
+-- The answers of a command on a whole file. Memory is taken before the first octet or right behind the header. No other answer is given.
 abbrev pub FromFileBy : {X : Type 0} → (List ℕ → FrontAt X) → TextBehind X → Seen → Outcome → Type 0
 FromFileBy at text seen Done = BehindHeaderBy at text seen Done
 FromFileBy at text seen ReadFault =
     ((octets : List ℕ) × ReadFailed seen × Took seen octets × (at octets ≡ Short) × Written seen []) ⊎ BehindHeaderBy at text seen ReadFault
 FromFileBy at text seen WriteFault = BehindHeaderBy at text seen WriteFault
-FromFileBy at text seen NoMemory = (octets : List ℕ) × Took seen octets × (length octets < 65600) × (seen.held_after ≡ seen.held_before)
-FromFileBy at text seen (BadLine number kind) = ⊥
+FromFileBy at text seen NoMemory = TookHeaderBy at seen × (seen.held_after ≡ seen.held_before)
 FromFileBy at text seen (BadHeader bad) = IsNoHeaderBy at seen bad × Written seen []
-FromFileBy at text seen (TooTight frame) = ⊥
 FromFileBy at text seen (Cut rest) = BehindHeaderBy at text seen (Cut rest)
 FromFileBy at text seen NotAligned = BehindHeaderBy at text seen NotAligned
 FromFileBy at text seen TooLong = BehindHeaderBy at text seen TooLong
+FromFileBy at text seen outcome = ⊥
 
 -- on a whole capture, and on a whole file of levels
 abbrev pub FromCapture : CaptureText → Seen → Outcome → Type 0
@@ -137,15 +139,15 @@ abbrev pub HasLevelsHeader : BeatsState → History → LevelsHeader → Type 0
 HasLevelsHeader beats h header = HasHeaderBy levels_header_at front.ReadLevels beats h header
 
 -- A reader was opened with the usual limit, has taken these octets from a source, and has its header.
-pub record HasOpenedBy {X : Type 0} (at : List ℕ → FrontAt X) (read_as : X → Front) (beats : BeatsState) (header : X) (left_before left_after : Option (List ℕ)) : Type 0 where
+pub record HasOpenedBy {X : Type 0} (at : List ℕ → FrontAt X) (read_as : X → Front) (beats : BeatsState) (header : X) (told_before told_after : Told) : Type 0 where
   pub history : History
   pub has : HasHeaderBy at read_as beats history header
   pub limit : history.limit ≡ 2 ^ 40
-  pub took : Consumes left_before left_after history.octets
+  pub took : Gives told_before told_after history.octets
   pub few : length history.octets < 65600
 
-abbrev pub HasOpened : BeatsState → Header → Option (List ℕ) → Option (List ℕ) → Type 0
-HasOpened beats header left_before left_after = HasOpenedBy header_at front.Read beats header left_before left_after
+abbrev pub HasOpened : BeatsState → Header → Told → Told → Type 0
+HasOpened beats header told_before told_after = HasOpenedBy header_at front.Read beats header told_before told_after
 
-abbrev pub HasOpenedLevels : BeatsState → LevelsHeader → Option (List ℕ) → Option (List ℕ) → Type 0
-HasOpenedLevels beats header left_before left_after = HasOpenedBy levels_header_at front.ReadLevels beats header left_before left_after
+abbrev pub HasOpenedLevels : BeatsState → LevelsHeader → Told → Told → Type 0
+HasOpenedLevels beats header told_before told_after = HasOpenedBy levels_header_at front.ReadLevels beats header told_before told_after

@@ -1,12 +1,12 @@
 -- What is seen of the source and the sink of a run.
 use Rattle.std.specs.Prelude.{◌≡◌, ℕ, Bool, IsTrue, List, [], ◌++◌, Option, IfSome}
 use Rattle.pcs_io.specs.Faults.{Rose}
-use Rattle.pcs_io.specs.Octets.{TakesWhereTold}
+use Rattle.pcs_io.specs.Octets.{Told, TakesWhereTold}
 
--- what the source has left, before and after, and whether its end was given; how often its reads failed; what the sink holds; how often its writes failed
+-- what the source tells, before and after, and whether its end was given; how often its reads failed; what the sink holds; how often its writes failed
 pub record Seen : Type 0 where
-  pub left_before : Option (List ℕ)
-  pub left_after : Option (List ℕ)
+  pub told_before : Told
+  pub told_after : Told
   pub ended : Bool
   pub reads_before : ℕ
   pub reads_after : ℕ
@@ -16,10 +16,10 @@ pub record Seen : Type 0 where
   pub writes_after : ℕ
 
 -- by the meanings of the source's and the sink's types, and their values before and after
-abbrev pub seen : {R W : Type 0} → (R → Option (List ℕ)) → (R → Bool) → (R → ℕ) → (W → Option (List ℕ)) → (W → ℕ) → R → R → W → W → Seen
-seen left ended reads held writes source_before source_after sink_before sink_after = record {
-  left_before = left source_before;
-  left_after = left source_after;
+abbrev pub seen : {R W : Type 0} → (R → Told) → (R → Bool) → (R → ℕ) → (W → Option (List ℕ)) → (W → ℕ) → R → R → W → W → Seen
+seen told ended reads held writes source_before source_after sink_before sink_after = record {
+  told_before = told source_before;
+  told_after = told source_after;
   ended = ended source_after;
   reads_before = reads source_before;
   reads_after = reads source_after;
@@ -30,10 +30,10 @@ seen left ended reads held writes source_before source_after sink_before sink_af
 }
 
 -- where the sink, which holds this and had so many failures, was not touched
-abbrev pub reads_only : {R : Type 0} → (R → Option (List ℕ)) → (R → Bool) → (R → ℕ) → R → R → Option (List ℕ) → ℕ → Seen
-reads_only left ended reads source_before source_after held writes = record {
-  left_before = left source_before;
-  left_after = left source_after;
+abbrev pub reads_only : {R : Type 0} → (R → Told) → (R → Bool) → (R → ℕ) → R → R → Option (List ℕ) → ℕ → Seen
+reads_only told ended reads source_before source_after held writes = record {
+  told_before = told source_before;
+  told_after = told source_after;
   ended = ended source_after;
   reads_before = reads source_before;
   reads_after = reads source_after;
@@ -43,14 +43,14 @@ reads_only left ended reads source_before source_after held writes = record {
   writes_after = writes;
 }
 
--- these octets were taken, where the source tells before and after
+-- the source gave these octets, and where it tells those left before and after, they were taken from their front
 abbrev pub Took : Seen → List ℕ → Type 0
-Took seen octets = TakesWhereTold seen.left_before seen.left_after octets
+Took seen octets = TakesWhereTold seen.told_before seen.told_after octets
 
 -- these octets were taken, and the source has ended behind them
 pub record TookAll (seen : Seen) (octets : List ℕ) : Type 0 where
   pub took : Took seen octets
-  pub nothing : IfSome seen.left_after (λ left. left ≡ [])
+  pub nothing : IfSome seen.told_after.left (λ left. left ≡ [])
   pub ended : IsTrue seen.ended
 
 -- this text was written, where the sink tells before and after
@@ -59,7 +59,7 @@ Written seen text = IfSome seen.held_before (λ before. IfSome seen.held_after (
 
 -- nothing was taken or written
 pub record Untouched (seen : Seen) : Type 0 where
-  pub left : seen.left_after ≡ seen.left_before
+  pub told : seen.told_after ≡ seen.told_before
   pub held : seen.held_after ≡ seen.held_before
 
 -- a read or a write failed

@@ -27,11 +27,11 @@ pub fn drive<T: Task, R: Source, W: Sink>(
     ensures captures { (h : History) (header : Header) (text : BeatsText) (start : Option (List ℕ)) → HasHeader beats.old h header
         → HasPut T.Keeps task.old text [] start (W.held sink.old) output.old
         → FromBeats text h.octets h.limit header
-        (since start (seen R.left R.ended R.faults W.held W.faults source.old source.new sink.old sink.new)) result }
+        (since start (seen R.told R.ended R.faults W.held W.faults source.old source.new sink.old sink.new)) result }
     ensures levels { (h : History) (header : LevelsHeader) (text : BeatsText) (start : Option (List ℕ)) → HasLevelsHeader beats.old h header
         → HasPut T.Keeps task.old text [] start (W.held sink.old) output.old
         → FromLevelBeats text h.octets h.limit header
-        (since start (seen R.left R.ended R.faults W.held W.faults source.old source.new sink.old sink.new)) result }
+        (since start (seen R.told R.ended R.faults W.held W.faults source.old source.new sink.old sink.new)) result }
 {
     match convert(beats, task, output, source, sink) {
         Ok(outcome) => outcome,
@@ -54,7 +54,7 @@ fn convert<T: Task, R: Source, W: Sink>(
         → HasHeaderBy (at_of kind) (front_of kind) beats.old h header
         → HasPut T.Keeps task.old text [] start (W.held sink.old) output.old
         → FromBeatsOrBy (at_of kind) text h.octets h.limit header
-        (since start (seen R.left R.ended R.faults W.held W.faults source.old source.new sink.old sink.new)) result }
+        (since start (seen R.told R.ended R.faults W.held W.faults source.old source.new sink.old sink.new)) result }
 {
     loop {
         task.take_all(beats.held(), output, sink)?;

@@ -24,7 +24,7 @@ pub fn drive_lines<P: Parser + Drop, T: LineTask<P>, R: Source, W: Sink>(
     ensures { (text_of : List P.Item → List ℕ) (start : Option (List ℕ)) → IsTextOf T.text P.line text_of
         → Wrote start (W.held sink.old) (text_of []) output.old
         → Converted P.line_at text_of
-        (since start (seen R.left R.ended R.faults W.held W.faults source.old source.new sink.old sink.new)) result }
+        (since start (seen R.told R.ended R.faults W.held W.faults source.old source.new sink.old sink.new)) result }
 {
     match convert_lines(reader, task, output, source, sink) {
         Ok(outcome) => outcome,
@@ -45,7 +45,7 @@ fn convert_lines<P: Parser + Drop, T: LineTask<P>, R: Source, W: Sink>(
     ensures { (text_of : List P.Item → List ℕ) (start : Option (List ℕ)) → IsTextOf T.text P.line text_of
         → Wrote start (W.held sink.old) (text_of []) output.old
         → Converts P.line_at text_of
-        (since start (seen R.left R.ended R.faults W.held W.faults source.old source.new sink.old sink.new)) result }
+        (since start (seen R.told R.ended R.faults W.held W.faults source.old source.new sink.old sink.new)) result }
 {
     loop {
         output.release(sink, reader.holds_line())?;

@@ -11,10 +11,10 @@ use std::alloc::Global;
 
 /// Opens a reader of captures and reads the header. `Err` is how the command ends then.
 pub fn open_capture<R: Source>(alloc: Global, source: &mut R) -> Result<(Beats, Header), Outcome>
-    ensures ok { IfOk result (λ opened. HasOpened opened.0 opened.1 (R.left source.old) (R.left source.new)) }
+    ensures ok { IfOk result (λ opened. HasOpened opened.0 opened.1 (R.told source.old) (R.told source.new)) }
     ensures range { IfOk result (λ opened. IsInRange opened.1) }
     ensures err { IfErr result (λ outcome. (text : CaptureText) (held : Option (List ℕ)) (writes : ℕ)
-        → FromCapture text (reads_only R.left R.ended R.faults source.old source.new held writes) outcome) }
+        → FromCapture text (reads_only R.told R.ended R.faults source.old source.new held writes) outcome) }
     ensures later { R.faults source.old ≤ R.faults source.new }
 {
     let Ok(mut beats) = Beats::open(alloc, LIMIT) else {
@@ -31,10 +31,10 @@ pub fn open_levels<R: Source>(
     alloc: Global,
     source: &mut R,
 ) -> Result<(Beats, LevelsHeader), Outcome>
-    ensures ok { IfOk result (λ opened. HasOpenedLevels opened.0 opened.1 (R.left source.old) (R.left source.new)) }
+    ensures ok { IfOk result (λ opened. HasOpenedLevels opened.0 opened.1 (R.told source.old) (R.told source.new)) }
     ensures range { IfOk result (λ opened. IsLevelsHeader opened.1) }
     ensures err { IfErr result (λ outcome. (text : LevelsText) (held : Option (List ℕ)) (writes : ℕ)
-        → FromLevels text (reads_only R.left R.ended R.faults source.old source.new held writes) outcome) }
+        → FromLevels text (reads_only R.told R.ended R.faults source.old source.new held writes) outcome) }
     ensures later { R.faults source.old ≤ R.faults source.new }
 {
     match Beats::open(alloc, LIMIT) {

@@ -1,5 +1,6 @@
 -- The calls behind the header of a reader of captures or of files of levels, over every history.
 use Rattle.std.proofs.Common.{◌≡◌, ℕ, ◌+◌, ◌*◌, ◌/◌, ◌%◌, ◌<◌, Bool, List, [], ◌∷◌, ◌++◌, length, take, drop, refl, sym, ap, ap₂, ◌∙◌, inl, inr, subst, arith, append_assoc, length-append, Option, Some, None, Result, Ok, Err}
+use Rattle.pcs_io.specs.Octets.{Told}
 use Rattle.pcs_io.specs.Grammars.{Begins}
 use Rattle.pcs_io.specs.Beats.{beat_at, BeatParserState}
 use Rattle.pcs_io.specs.Histories.{ReaderState}
@@ -31,7 +32,7 @@ module _ {X : Type 0} (at : List ℕ → FrontAt X) where
 
 module _ {X : Type 0} (at : List ℕ → FrontAt X) (read_as : X → Front) (kind : Kind at read_as)
     (h : History) (header : X) (pieces : List (List ℕ)) (is : IsHeaderBy at pieces header) (kept : Front) (kept_is : kept ≡ read_as header)
-    (old new : ReaderState BeatParserState) (before now : Option (List ℕ)) (ended : Bool) where
+    (old new : ReaderState BeatParserState) (before now : Told) (ended : Bool) where
   abbrev inner : Standing → lines.History (List ℕ)
   inner standing = pieces_read h.limit h.octets (pieces ++ h.beats) standing
 
@@ -47,11 +48,11 @@ module _ {X : Type 0} (at : List ℕ → FrontAt X) (read_as : X → Front) (kin
     at = subst (λ f. StandsAt f standing pieces k) (sym kept_is) (kind.put header standing pieces k is course);
   }
 
-  abbrev Told : Course → Result BeatIn CapFault → Type 0
-  Told course result = TellsBy at course h header (state old) (state new) before now ended result
+  abbrev TellsIt : Course → Result BeatIn CapFault → Type 0
+  TellsIt course result = TellsBy at course h header (state old) (state new) before now ended result
 
   going-told : (answer : Result (Option (List ℕ)) InFault) → h.course ≡ Going → lines.Tells beat_at reader.Going (inner reader.Going) old new before now ended answer
-      → Told Going (beat_of answer new.buffer.taken)
+      → TellsIt Going (beat_of answer new.buffer.taken)
   going-told (Ok (Some beat)) course (got, a, s) =
       let same : (pieces ++ h.beats) ++ beat ∷ [] ≡ pieces ++ (h.beats ++ beat ∷ []) = append_assoc pieces h.beats (beat ∷ []) in (
         got,
@@ -89,7 +90,7 @@ module _ {X : Type 0} (at : List ℕ → FrontAt X) (read_as : X → Front) (kin
   Same = (new ≡ old) × (now ≡ before)
 
   again : (standing : Standing) (answer : Result (Option (List ℕ)) InFault) → lines.Stands beat_at old (inner standing) → lines.Tells beat_at standing (inner standing) old new before now ended answer
-      → h.course ≡ course_of standing (length h.octets) → Told (course_of standing (length h.octets)) (beat_of answer new.buffer.taken)
+      → h.course ≡ course_of standing (length h.octets) → TellsIt (course_of standing (length h.octets)) (beat_of answer new.buffer.taken)
   again reader.Going answer s t course = going-told answer course t
   again reader.Ended answer s t course = (ap (λ a. beat_of a new.buffer.taken) t.0, ap state t.1, t.2)
   again (reader.Failed fault.Read) answer s t course = (ap (λ a. beat_of a new.buffer.taken) t.0, ap state t.1, t.2)
@@ -100,7 +101,7 @@ module _ {X : Type 0} (at : List ℕ → FrontAt X) (read_as : X → Front) (kin
 
 -- a call of `next`
 told-by : {X : Type 0} (at : List ℕ → FrontAt X) (read_as : X → Front) → Kind at read_as
-    → (x : BeatsState) (new : ReaderState BeatParserState) (before now : Option (List ℕ)) (ended : Bool) (result : Result BeatIn CapFault)
+    → (x : BeatsState) (new : ReaderState BeatParserState) (before now : Told) (ended : Bool) (result : Result BeatIn CapFault)
     → ReadsBeat x.reader new before now ended result → (h : History) (header : X) → Stands x h → x.front ≡ read_as header
     → TellsBy at h.course h header x (record { reader = new; front = x.front }) before now ended result
 told-by at read_as kind x new before now ended result (answer, n, e) h header s read =
@@ -110,12 +111,12 @@ told-by at read_as kind x new before now ended result (answer, n, e) h header s 
     (subst (λ course. TellsBy at course h header x (record { reader = new; front = x.front }) before now ended (beat_of answer new.buffer.taken)) (sym stands.1)
     (again at read_as kind h header s.pieces stands.0 x.front read x.reader new before now ended s.standing answer s.read t stands.1))
 
-pub beat-told : (x : BeatsState) (new : ReaderState BeatParserState) (before now : Option (List ℕ)) (ended : Bool) (result : Result BeatIn CapFault)
+pub beat-told : (x : BeatsState) (new : ReaderState BeatParserState) (before now : Told) (ended : Bool) (result : Result BeatIn CapFault)
     → ReadsBeat x.reader new before now ended result → (h : History) (header : Header) → Stands x h → x.front ≡ front.Read header
     → Tells h.course h header x (record { reader = new; front = x.front }) before now ended result
 beat-told x new before now ended result reads h header s read = told-by header_at front.Read captures x new before now ended result reads h header s read
 
-pub level-beat-told : (x : BeatsState) (new : ReaderState BeatParserState) (before now : Option (List ℕ)) (ended : Bool) (result : Result BeatIn CapFault)
+pub level-beat-told : (x : BeatsState) (new : ReaderState BeatParserState) (before now : Told) (ended : Bool) (result : Result BeatIn CapFault)
     → ReadsBeat x.reader new before now ended result → (h : History) (header : LevelsHeader) → Stands x h → x.front ≡ front.ReadLevels header
     → TellsBy levels_header_at h.course h header x (record { reader = new; front = x.front }) before now ended result
 level-beat-told x new before now ended result reads h header s read =
@@ -157,6 +158,7 @@ passed-by at read_as kind x n is h header s read course =
         read = record {
           limit = s.read.limit;
           taken = s.read.taken;
+          within = s.read.within;
           lines = omega (arith, s.read.lines, held.1, length-append (s.pieces ++ h.beats) held.0, ap length same);
           standing = s.read.standing ∙ going;
           unused = begins;

@@ -1,7 +1,7 @@
 -- The call that reads the header, over every history.
 use Rattle.std.proofs.Common.{◌≡◌, ℕ, ◌<◌, ◌≤◌, arith, Bool, false, List, [], ◌∷◌, ◌++◌, length, refl, sym, ap, ◌∙◌, inl, inr, subst, append_assoc, append-nil, Option, Some, None, Result, Ok, Err}
 use Rattle.std.specs.List.{flat_map}
-use Rattle.std.specs.Io.KnownBytes.{Consumes}
+use Rattle.pcs_io.specs.Octets.{Told, Gives}
 use Rattle.pcs_io.specs.Beats.{beat_at, BeatParserState}
 use Rattle.pcs_io.specs.Headers.{header_of, header2_of}
 use Rattle.pcs_io.specs.LevelsHeaders.{levels_header_of}
@@ -18,7 +18,7 @@ use Rattle.pcs_io.specs.declared.reader.Standing.TheVariants as reader
 use Rattle.pcs_io.specs.declared.beats.CapFault.{CapFault}
 use Rattle.pcs_io.specs.declared.beats.Front.{Front}
 use Rattle.pcs_io.specs.declared.beats.Front.TheVariants as front
-use Rattle.pcs_io.proofs.Told.{consumes-append, consumes-none}
+use Rattle.pcs_io.proofs.Told.{gives-append, gives-none}
 use Rattle.pcs_io.proofs.BeatPieces.{is-piece, pieces-length}
 use Rattle.pcs_io.proofs.HeaderReading.{AreShort, none-short, one-short, header1-is, header2-is, levels-is, levels-none-short, levels-one-short, piece-missing}
 
@@ -40,14 +40,14 @@ Settled at (Ok header) pieces standing = IsHeaderBy at pieces header × (standin
 Settled at (Err why) pieces standing = Unit {0}
 
 -- A header of any kind.
-module _ {X : Type 0} (at : List ℕ → FrontAt X) (limit : ℕ) (old : ReaderState BeatParserState) (before : Option (List ℕ)) (fresh : lines.Stands beat_at old (lines.opened limit)) where
-  abbrev pub Settles : ReaderState BeatParserState → Option (List ℕ) → Bool → Result X CapFault → Type 0
+module _ {X : Type 0} (at : List ℕ → FrontAt X) (limit : ℕ) (old : ReaderState BeatParserState) (before : Told) (fresh : lines.Stands beat_at old (lines.opened limit)) where
+  abbrev pub Settles : ReaderState BeatParserState → Told → Bool → Result X CapFault → Type 0
   Settles new now ended result =
       (got : List ℕ) × HeaderAnswersBy at limit got before now ended result
       × (pieces : List (List ℕ)) × (standing : Standing) × lines.Stands beat_at new (pieces_read limit got pieces standing) × Settled at result pieces standing
 
-  pub whole : (new : ReaderState BeatParserState) (now : Option (List ℕ)) (ended : Bool) (got : List ℕ) (pieces : List (List ℕ)) (header : Result X BadHeader)
-      → Consumes before now got → (rest : List ℕ) → at got ≡ settled header rest
+  pub whole : (new : ReaderState BeatParserState) (now : Told) (ended : Bool) (got : List ℕ) (pieces : List (List ℕ)) (header : Result X BadHeader)
+      → Gives before now got → (rest : List ℕ) → at got ≡ settled header rest
       → ((r : List ℕ) → at (flat_map (λ piece. piece) pieces ++ r) ≡ settled header r)
       → lines.Stands beat_at new (pieces_read limit got pieces reader.Going) → length pieces ≤ 2 → length new.buffer.unused ≤ 65536
       → Settles new now ended (refusal_of header)
@@ -56,10 +56,10 @@ module _ {X : Type 0} (at : List ℕ → FrontAt X) (limit : ℕ) (old : ReaderS
       let few : length got < 65600 = omega (arith, two, within, pieces-length got pieces new.buffer.unused stands.unused) in (got, inl (took, is, few), pieces, reader.Going, stands, tt)
 
   -- a second piece behind the first one
-  module _ (mid : ReaderState BeatParserState) (between : Option (List ℕ)) (soon : Bool) (front : List ℕ)
+  module _ (mid : ReaderState BeatParserState) (between : Told) (soon : Bool) (front : List ℕ)
       (n : lines.Nexts beat_at old mid before between soon (Ok (Some front))) (short : AreShort at (front ∷ [])) (both_of : List ℕ → Result X BadHeader)
       (reads : (behind rest : List ℕ) → length front ≡ 16 → length behind ≡ 16 → at ((front ++ behind) ++ rest) ≡ settled (both_of (front ++ behind)) rest)
-      (new : ReaderState BeatParserState) (now : Option (List ℕ)) (ended : Bool) where
+      (new : ReaderState BeatParserState) (now : Told) (ended : Bool) where
     both-pieces : (behind : List ℕ) → lines.Nexts beat_at mid new between now ended (Ok (Some behind)) → Settles new now ended (refusal_of (both_of (front ++ behind)))
     both-pieces behind m =
         let t = n.history (lines.opened limit) fresh in
@@ -70,7 +70,7 @@ module _ {X : Type 0} (at : List ℕ → FrontAt X) (limit : ℕ) (old : ReaderS
         let rest = u.1.2.2.0 in
         let parts : t.0 ++ u.0 ≡ (front ++ behind) ++ rest = first.parts ∙ ap (λ s. front ++ s) second.parts ∙ sym (append_assoc front behind rest) in
         whole new now ended (t.0 ++ u.0) (front ∷ behind ∷ []) (both_of (front ++ behind))
-        (consumes-append before between now t.0 u.0 t.1.0 u.1.0) rest
+        (gives-append before between now t.0 u.0 t.1.0 u.1.0) rest
         (ap at parts ∙ reads behind rest first.sixteen second.sixteen)
         (λ r. ap (λ f. at ((front ++ f) ++ r)) (append-nil behind) ∙ reads behind r first.sixteen second.sixteen)
         u.2 (omega arith) m.within
@@ -104,33 +104,33 @@ module _ {X : Type 0} (at : List ℕ → FrontAt X) (limit : ℕ) (old : ReaderS
     pub by-second : (result : Result X CapFault) → ReadsSecond both_of mid new between now ended front result → Settles new now ended result
     by-second result s = subst (Settles new now ended) (sym s.2) (by-both s.1.0 s.0 s.1.1 s.1.2)
 
-  pub first-missing : (mid : ReaderState BeatParserState) (between : Option (List ℕ)) (soon : Bool) (answer : Result (Option (List ℕ)) InFault) (why : CapFault)
+  pub first-missing : (mid : ReaderState BeatParserState) (between : Told) (soon : Bool) (answer : Result (Option (List ℕ)) InFault) (why : CapFault)
       → AreShort at [] → lines.Nexts beat_at old mid before between soon answer → piece_of answer mid.buffer.taken ≡ Err why → Settles mid between soon (Err why)
   first-missing mid between soon answer why none n missing =
       let h = lines.opened limit in
       let t = n.history h fresh in
       let stands = told-parts mid h t.0 answer t.2 in (
         t.0,
-        piece-missing at h before before between soon t.0 mid.buffer.taken none (consumes-none before) stands.taken answer why t.1 missing,
+        piece-missing at h before before between soon t.0 mid.buffer.taken none (gives-none before) stands.taken answer why t.1 missing,
         (lines.told h t.0 answer).lines,
         (lines.told h t.0 answer).standing,
         stands,
         tt,
       )
 
-  pub rested : (mid new : ReaderState BeatParserState) (between now : Option (List ℕ)) (soon ended : Bool) (result : Result X CapFault)
+  pub rested : (mid new : ReaderState BeatParserState) (between now : Told) (soon ended : Bool) (result : Result X CapFault)
       → Rests mid new between now soon ended → Settles mid between soon result → Settles new now ended result
   rested mid new between now soon ended result rests settles =
       subst (λ x. Settles x now ended result) (sym rests.state)
       (subst (λ o. Settles mid o ended result) (sym rests.source) (subst (λ b. Settles mid between b result) (sym rests.end) settles))
 
   -- where no first piece was read, the answer is why
-  pub not-read : (mid new : ReaderState BeatParserState) (between now : Option (List ℕ)) (soon ended : Bool) (why : CapFault) (result : Result X CapFault)
+  pub not-read : (mid new : ReaderState BeatParserState) (between now : Told) (soon ended : Bool) (why : CapFault) (result : Result X CapFault)
       → AreShort at [] → ReadsPiece old mid before between soon (Err why) → Rests mid new between now soon ended → result ≡ Err why → Settles new now ended result
   not-read mid new between now soon ended why result none (answer, n, e) rests is =
       rested mid new between now soon ended result rests (subst (Settles mid between soon) (sym is) (first-missing mid between soon answer why none n (sym e)))
 
-  was-read : (mid : ReaderState BeatParserState) (between : Option (List ℕ)) (soon : Bool) (front : List ℕ) (answer : Result (Option (List ℕ)) InFault)
+  was-read : (mid : ReaderState BeatParserState) (between : Told) (soon : Bool) (front : List ℕ) (answer : Result (Option (List ℕ)) InFault)
       → lines.Nexts beat_at old mid before between soon answer → Ok front ≡ piece_of answer mid.buffer.taken
       → lines.Nexts beat_at old mid before between soon (Ok (Some front))
   was-read mid between soon front (Ok (Some piece)) n e =
@@ -141,13 +141,13 @@ module _ {X : Type 0} (at : List ℕ → FrontAt X) (limit : ℕ) (old : ReaderS
   was-read mid between soon front (Err (fault.BadLine number kind)) n e = absurd (cc)
   was-read mid between soon front (Err fault.TooLong) n e = absurd (cc)
 
-  pub piece-read : (mid : ReaderState BeatParserState) (between : Option (List ℕ)) (soon : Bool) (front : List ℕ) → ReadsPiece old mid before between soon (Ok front)
+  pub piece-read : (mid : ReaderState BeatParserState) (between : Told) (soon : Bool) (front : List ℕ) → ReadsPiece old mid before between soon (Ok front)
       → lines.Nexts beat_at old mid before between soon (Ok (Some front))
   piece-read mid between soon front (answer, n, e) = was-read mid between soon front answer n e
 
 -- A header of a capture, and one of a file of levels.
-module _ (limit : ℕ) (old : ReaderState BeatParserState) (before : Option (List ℕ)) (fresh : lines.Stands beat_at old (lines.opened limit)) where
-  by-one : (mid : ReaderState BeatParserState) (between : Option (List ℕ)) (soon : Bool) (front : List ℕ)
+module _ (limit : ℕ) (old : ReaderState BeatParserState) (before : Told) (fresh : lines.Stands beat_at old (lines.opened limit)) where
+  by-one : (mid : ReaderState BeatParserState) (between : Told) (soon : Bool) (front : List ℕ)
       → lines.Nexts beat_at old mid before between soon (Ok (Some front)) → is_version2 front ≡ false
       → Settles header_at limit old before fresh mid between soon (refusal_of (header_of front))
   by-one mid between soon front n other =
@@ -158,7 +158,7 @@ module _ (limit : ℕ) (old : ReaderState BeatParserState) (before : Option (Lis
       (λ r. ap (λ f. header_at (f ++ r)) (append-nil front) ∙ header1-is front r piece.sixteen other)
       t.2 (omega arith) n.within
 
-  capture-on : (mid new : ReaderState BeatParserState) (between now : Option (List ℕ)) (soon ended : Bool) (first : Result (List ℕ) CapFault) (result : Result Header CapFault)
+  capture-on : (mid new : ReaderState BeatParserState) (between now : Told) (soon ended : Bool) (first : Result (List ℕ) CapFault) (result : Result Header CapFault)
       → ReadsPiece old mid before between soon first → ReadsOn mid new between now soon ended first result → Settles header_at limit old before fresh new now ended result
   capture-on mid new between now soon ended (Err why) result piece on =
       not-read header_at limit old before fresh mid new between now soon ended why result none-short piece on.0 on.1
@@ -171,7 +171,7 @@ module _ (limit : ℕ) (old : ReaderState BeatParserState) (before : Option (Lis
       by-second header_at limit old before fresh mid between soon front n (one-short front two.0) header2_of
       (λ behind rest first second. header2-is front behind rest first second two.0) new now ended result two.1
 
-  levels-on : (mid new : ReaderState BeatParserState) (between now : Option (List ℕ)) (soon ended : Bool) (first : Result (List ℕ) CapFault) (result : Result LevelsHeader CapFault)
+  levels-on : (mid new : ReaderState BeatParserState) (between now : Told) (soon ended : Bool) (first : Result (List ℕ) CapFault) (result : Result LevelsHeader CapFault)
       → ReadsPiece old mid before between soon first → ReadsOnLevels mid new between now soon ended first result
       → Settles levels_header_at limit old before fresh new now ended result
   levels-on mid new between now soon ended (Err why) result piece on =
@@ -202,17 +202,17 @@ pub level_files : Kind levels_header_at front.ReadLevels
 level_files = record { put = λ header standing pieces h is course. (is, course); get = λ header standing pieces h at. at }
 
 module _ {X : Type 0} (at : List ℕ → FrontAt X) (read_as : X → Front) (kind : Kind at read_as)
-    (Reads : ReaderState BeatParserState → ReaderState BeatParserState → Option (List ℕ) → Option (List ℕ) → Bool → Result X CapFault → Type 0)
-    (settling : (limit : ℕ) (old : ReaderState BeatParserState) (before : Option (List ℕ)) (fresh : lines.Stands beat_at old (lines.opened limit))
-    (new : ReaderState BeatParserState) (now : Option (List ℕ)) (ended : Bool) (result : Result X CapFault) → Reads old new before now ended result
+    (Reads : ReaderState BeatParserState → ReaderState BeatParserState → Told → Told → Bool → Result X CapFault → Type 0)
+    (settling : (limit : ℕ) (old : ReaderState BeatParserState) (before : Told) (fresh : lines.Stands beat_at old (lines.opened limit))
+    (new : ReaderState BeatParserState) (now : Told) (ended : Bool) (result : Result X CapFault) → Reads old new before now ended result
     → Settles at limit old before fresh new now ended result) where
   -- the answer and the state, for a history
-  abbrev pub HeaderTold : History → ReaderState BeatParserState → Option (List ℕ) → Option (List ℕ) → Bool → Result X CapFault → Type 0
+  abbrev pub HeaderTold : History → ReaderState BeatParserState → Told → Told → Bool → Result X CapFault → Type 0
   HeaderTold h new before now ended result =
       (got : List ℕ) × HeaderAnswersBy at h.limit got before now ended result
       × Stands (record { reader = new; front = front_after read_as result }) (header_told h got result)
 
-  told-opened : (limit : ℕ) (old new : ReaderState BeatParserState) (before now : Option (List ℕ)) (ended : Bool) (result : Result X CapFault)
+  told-opened : (limit : ℕ) (old new : ReaderState BeatParserState) (before now : Told) (ended : Bool) (result : Result X CapFault)
       → lines.Stands beat_at old (lines.opened limit) → Reads old new before now ended result
       → HeaderTold (opened limit) new before now ended result
   told-opened limit old new before now ended (Ok header) fresh reads =
@@ -249,31 +249,31 @@ module _ {X : Type 0} (at : List ℕ → FrontAt X) (read_as : X → Front) (kin
       let b = subst (λ st. lines.Stands beat_at x (pieces_read h.limit h.octets h.beats st)) going a in
       subst (λ k. lines.Stands beat_at x (pieces_read h.limit k.octets k.beats reader.Going)) new b
 
-  pub told-by : (x : BeatsState) (new : ReaderState BeatParserState) (before now : Option (List ℕ)) (ended : Bool) (result : Result X CapFault)
+  pub told-by : (x : BeatsState) (new : ReaderState BeatParserState) (before now : Told) (ended : Bool) (result : Result X CapFault)
       → x.front ≡ front.Unread → Reads x.reader new before now ended result → (h : History) → Stands x h → HeaderTold h new before now ended result
   told-by x new before now ended result unread reads h s =
       let at_start = subst (λ f. StandsAt f s.standing s.pieces h) unread s.at in
       let fresh = fresh-of x.reader h s.pieces s.standing at_start.0 at_start.1 at_start.2 s.read in
       subst (λ k. HeaderTold k new before now ended result) (sym at_start.2) (told-opened h.limit x.reader new before now ended result fresh reads)
 
-pub settles : (limit : ℕ) (old : ReaderState BeatParserState) (before : Option (List ℕ)) (fresh : lines.Stands beat_at old (lines.opened limit))
-    (new : ReaderState BeatParserState) (now : Option (List ℕ)) (ended : Bool) (result : Result Header CapFault)
+pub settles : (limit : ℕ) (old : ReaderState BeatParserState) (before : Told) (fresh : lines.Stands beat_at old (lines.opened limit))
+    (new : ReaderState BeatParserState) (now : Told) (ended : Bool) (result : Result Header CapFault)
     → FrontReads old new before now ended result → Settles header_at limit old before fresh new now ended result
 settles limit old before fresh new now ended result (mid, between, soon, first, piece, on) =
     capture-on limit old before fresh mid new between now soon ended first result piece on
 
-pub levels-settle : (limit : ℕ) (old : ReaderState BeatParserState) (before : Option (List ℕ)) (fresh : lines.Stands beat_at old (lines.opened limit))
-    (new : ReaderState BeatParserState) (now : Option (List ℕ)) (ended : Bool) (result : Result LevelsHeader CapFault)
+pub levels-settle : (limit : ℕ) (old : ReaderState BeatParserState) (before : Told) (fresh : lines.Stands beat_at old (lines.opened limit))
+    (new : ReaderState BeatParserState) (now : Told) (ended : Bool) (result : Result LevelsHeader CapFault)
     → LevelsFrontReads old new before now ended result → Settles levels_header_at limit old before fresh new now ended result
 levels-settle limit old before fresh new now ended result (mid, between, soon, first, piece, on) =
     levels-on limit old before fresh mid new between now soon ended first result piece on
 
-pub header-told : (x : BeatsState) (new : ReaderState BeatParserState) (before now : Option (List ℕ)) (ended : Bool) (result : Result Header CapFault)
+pub header-told : (x : BeatsState) (new : ReaderState BeatParserState) (before now : Told) (ended : Bool) (result : Result Header CapFault)
     → x.front ≡ front.Unread → FrontReads x.reader new before now ended result → (h : History) → Stands x h
     → HeaderTold header_at front.Read captures FrontReads settles h new before now ended result
 header-told x new before now ended result unread reads h s = told-by header_at front.Read captures FrontReads settles x new before now ended result unread reads h s
 
-pub levels-told : (x : BeatsState) (new : ReaderState BeatParserState) (before now : Option (List ℕ)) (ended : Bool) (result : Result LevelsHeader CapFault)
+pub levels-told : (x : BeatsState) (new : ReaderState BeatParserState) (before now : Told) (ended : Bool) (result : Result LevelsHeader CapFault)
     → x.front ≡ front.Unread → LevelsFrontReads x.reader new before now ended result → (h : History) → Stands x h
     → HeaderTold levels_header_at front.ReadLevels level_files LevelsFrontReads levels-settle h new before now ended result
 levels-told x new before now ended result unread reads h s =

@@ -3,8 +3,7 @@
 use Rattle.std.specs.Prelude.{◌≡◌, ℕ, ◌*◌, ◌/◌, ◌%◌, ◌<◌, ◌⊎◌, Bool, nat_le, bytes_eq, if◌then◌else◌, List, [], ◌∷◌, ◌++◌, length, take, drop, codes, Option, Some, None, Result, Ok, Err, true, false}
 use Rattle.std.specs.List.{flat_map}
 use Rattle.std.proofs.Common.{inl, inr}
-use Rattle.std.specs.Io.KnownBytes.{Consumes}
-use Rattle.pcs_io.specs.Octets.{TakesWhereTold}
+use Rattle.pcs_io.specs.Octets.{Gives, Told, TakesWhereTold}
 use Rattle.pcs_io.specs.Grammars.{Begins}
 use Rattle.pcs_io.specs.Beats.{beat_at, BeatParserState}
 use Rattle.pcs_io.specs.Headers.{header_of, header2_of}
@@ -130,41 +129,41 @@ pub record Stands (x : BeatsState) (h : History) : Type 0 where
 
 -- what `header` or `levels_header` answers, where it took these octets: `before` and `now` are what the source has left, and `ended` tells
 -- whether its end was given
-abbrev pub HeaderAnswersBy : {X : Type 0} → (List ℕ → FrontAt X) → ℕ → List ℕ → Option (List ℕ) → Option (List ℕ) → Bool → Result X CapFault → Type 0
-HeaderAnswersBy at limit got before now ended (Ok header) = Consumes before now got × (rest : List ℕ) × (at got ≡ Whole header rest)
+abbrev pub HeaderAnswersBy : {X : Type 0} → (List ℕ → FrontAt X) → ℕ → List ℕ → Told → Told → Bool → Result X CapFault → Type 0
+HeaderAnswersBy at limit got before now ended (Ok header) = Gives before now got × (rest : List ℕ) × (at got ≡ Whole header rest)
 HeaderAnswersBy at limit got before now ended (Err cap.Read) = TakesWhereTold before now got × (at got ≡ Short)
 HeaderAnswersBy at limit got before now ended (Err (cap.BadHeader bad)) =
-    (Consumes before now got × (at got ≡ Wrong bad) × (length got < 65600))
+    (Gives before now got × (at got ≡ Wrong bad) × (length got < 65600))
     ⊎ ((bad ≡ record { place = length got; cut = true }) × Ends before now ended got × (length got < limit) × (at got ≡ Short))
-HeaderAnswersBy at limit got before now ended (Err cap.TooLong) = Consumes before now got × (length got ≡ limit) × (at got ≡ Short)
+HeaderAnswersBy at limit got before now ended (Err cap.TooLong) = Gives before now got × (length got ≡ limit) × (at got ≡ Short)
 
-abbrev pub HeaderAnswers : ℕ → List ℕ → Option (List ℕ) → Option (List ℕ) → Bool → Result Header CapFault → Type 0
+abbrev pub HeaderAnswers : ℕ → List ℕ → Told → Told → Bool → Result Header CapFault → Type 0
 HeaderAnswers limit got before now ended answer = HeaderAnswersBy header_at limit got before now ended answer
 
 -- what `next` answers, behind this header
-abbrev pub BeatAnswersBy : {X : Type 0} → (List ℕ → FrontAt X) → History → X → List ℕ → Option (List ℕ) → Option (List ℕ) → Bool → Result BeatIn CapFault → Type 0
+abbrev pub BeatAnswersBy : {X : Type 0} → (List ℕ → FrontAt X) → History → X → List ℕ → Told → Told → Bool → Result BeatIn CapFault → Type 0
 BeatAnswersBy at h header got before now ended (Ok (Beat beat)) =
-    Consumes before now got × (rest : List ℕ) × OpensBy at (h.octets ++ got) header (h.beats ++ beat ∷ []) rest
+    Gives before now got × (rest : List ℕ) × OpensBy at (h.octets ++ got) header (h.beats ++ beat ∷ []) rest
 BeatAnswersBy at h header got before now ended (Ok (End over)) =
     Ends before now ended got × (length (h.octets ++ got) < h.limit) × OpensWholeBy at (h.octets ++ got) header h.beats over
 BeatAnswersBy at h header got before now ended (Err cap.Read) =
     TakesWhereTold before now got × (over : ℕ) × OpensWholeBy at (h.octets ++ got) header h.beats over
 BeatAnswersBy at h header got before now ended (Err (cap.BadHeader bad)) = ⊥
 BeatAnswersBy at h header got before now ended (Err cap.TooLong) =
-    Consumes before now got × (length (h.octets ++ got) ≡ h.limit) × (over : ℕ) × OpensWholeBy at (h.octets ++ got) header h.beats over
+    Gives before now got × (length (h.octets ++ got) ≡ h.limit) × (over : ℕ) × OpensWholeBy at (h.octets ++ got) header h.beats over
 
-abbrev pub BeatAnswers : History → Header → List ℕ → Option (List ℕ) → Option (List ℕ) → Bool → Result BeatIn CapFault → Type 0
+abbrev pub BeatAnswers : History → Header → List ℕ → Told → Told → Bool → Result BeatIn CapFault → Type 0
 BeatAnswers h header got before now ended answer = BeatAnswersBy header_at h header got before now ended answer
 
 -- a call of `next`: after the end or a fault it answers the same again, and does nothing
-abbrev pub TellsBy : {X : Type 0} → (List ℕ → FrontAt X) → Course → History → X → BeatsState → BeatsState → Option (List ℕ) → Option (List ℕ) → Bool → Result BeatIn CapFault → Type 0
+abbrev pub TellsBy : {X : Type 0} → (List ℕ → FrontAt X) → Course → History → X → BeatsState → BeatsState → Told → Told → Bool → Result BeatIn CapFault → Type 0
 TellsBy at Unread h header old new before now ended answer = ⊥
 TellsBy at Going h header old new before now ended answer =
     (got : List ℕ) × BeatAnswersBy at h header got before now ended answer × Stands new (beat_told h got answer)
 TellsBy at (Ended over) h header old new before now ended answer = (answer ≡ Ok (End over)) × (new ≡ old) × (now ≡ before)
 TellsBy at (Failed fault) h header old new before now ended answer = (answer ≡ Err fault) × (new ≡ old) × (now ≡ before)
 
-abbrev pub Tells : Course → History → Header → BeatsState → BeatsState → Option (List ℕ) → Option (List ℕ) → Bool → Result BeatIn CapFault → Type 0
+abbrev pub Tells : Course → History → Header → BeatsState → BeatsState → Told → Told → Bool → Result BeatIn CapFault → Type 0
 Tells course h header old new before now ended answer = TellsBy header_at course h header old new before now ended answer
 
 -- the octets of the whole beats in front of some octets
@@ -214,7 +213,7 @@ refusal_of (Ok header) = Ok header
 refusal_of (Err bad) = Err (cap.BadHeader bad)
 
 -- a piece was read, or why there is none
-abbrev pub ReadsPiece : ReaderState BeatParserState → ReaderState BeatParserState → Option (List ℕ) → Option (List ℕ) → Bool → Result (List ℕ) CapFault → Type 0
+abbrev pub ReadsPiece : ReaderState BeatParserState → ReaderState BeatParserState → Told → Told → Bool → Result (List ℕ) CapFault → Type 0
 ReadsPiece old new before now ended result =
     (answer : Result (Option (List ℕ)) InFault) × lines.Nexts beat_at old new before now ended answer × (result ≡ piece_of answer new.buffer.taken)
 
@@ -224,42 +223,42 @@ by_both both_of front (Ok behind) = refusal_of (both_of (front ++ behind))
 by_both both_of front (Err fault) = Err fault
 
 -- nothing more was read
-pub record Rests (old new : ReaderState BeatParserState) (before now : Option (List ℕ)) (ended_before ended : Bool) : Type 0 where
+pub record Rests (old new : ReaderState BeatParserState) (before now : Told) (ended_before ended : Bool) : Type 0 where
   pub state : new ≡ old
   pub source : now ≡ before
   pub end : ended ≡ ended_before
 
 -- a second piece is read behind the first one
-abbrev pub ReadsSecond : {X : Type 0} → (List ℕ → Result X BadHeader) → ReaderState BeatParserState → ReaderState BeatParserState → Option (List ℕ) → Option (List ℕ) → Bool
+abbrev pub ReadsSecond : {X : Type 0} → (List ℕ → Result X BadHeader) → ReaderState BeatParserState → ReaderState BeatParserState → Told → Told → Bool
     → List ℕ → Result X CapFault → Type 0
 ReadsSecond both_of mid new between now ended front result =
     (second : Result (List ℕ) CapFault) × ReadsPiece mid new between now ended second × (result ≡ by_both both_of front second)
 
 -- what comes behind the first piece: behind the magic and the version 2 a second one is read
-abbrev pub ReadsOn : ReaderState BeatParserState → ReaderState BeatParserState → Option (List ℕ) → Option (List ℕ) → Bool → Bool → Result (List ℕ) CapFault → Result Header CapFault → Type 0
+abbrev pub ReadsOn : ReaderState BeatParserState → ReaderState BeatParserState → Told → Told → Bool → Bool → Result (List ℕ) CapFault → Result Header CapFault → Type 0
 ReadsOn mid new between now soon ended (Ok front) result =
     ((is_version2 front ≡ false) × Rests mid new between now soon ended × (result ≡ refusal_of (header_of front)))
     ⊎ ((is_version2 front ≡ true) × ReadsSecond header2_of mid new between now ended front result)
 ReadsOn mid new between now soon ended (Err fault) result = Rests mid new between now soon ended × (result ≡ Err fault)
 
 -- the header of a capture is read by one piece or two
-abbrev pub FrontReads : ReaderState BeatParserState → ReaderState BeatParserState → Option (List ℕ) → Option (List ℕ) → Bool → Result Header CapFault → Type 0
+abbrev pub FrontReads : ReaderState BeatParserState → ReaderState BeatParserState → Told → Told → Bool → Result Header CapFault → Type 0
 FrontReads old new before now ended result =
-    (mid : ReaderState BeatParserState) × (between : Option (List ℕ)) × (soon : Bool) × (first : Result (List ℕ) CapFault)
+    (mid : ReaderState BeatParserState) × (between : Told) × (soon : Bool) × (first : Result (List ℕ) CapFault)
     × ReadsPiece old mid before between soon first × ReadsOn mid new between now soon ended first result
 
 -- that of a file of levels by two
-abbrev pub ReadsOnLevels : ReaderState BeatParserState → ReaderState BeatParserState → Option (List ℕ) → Option (List ℕ) → Bool → Bool → Result (List ℕ) CapFault → Result LevelsHeader CapFault
+abbrev pub ReadsOnLevels : ReaderState BeatParserState → ReaderState BeatParserState → Told → Told → Bool → Bool → Result (List ℕ) CapFault → Result LevelsHeader CapFault
     → Type 0
 ReadsOnLevels mid new between now soon ended (Ok front) result = ReadsSecond levels_header_of mid new between now ended front result
 ReadsOnLevels mid new between now soon ended (Err fault) result = Rests mid new between now soon ended × (result ≡ Err fault)
 
-abbrev pub LevelsFrontReads : ReaderState BeatParserState → ReaderState BeatParserState → Option (List ℕ) → Option (List ℕ) → Bool → Result LevelsHeader CapFault → Type 0
+abbrev pub LevelsFrontReads : ReaderState BeatParserState → ReaderState BeatParserState → Told → Told → Bool → Result LevelsHeader CapFault → Type 0
 LevelsFrontReads old new before now ended result =
-    (mid : ReaderState BeatParserState) × (between : Option (List ℕ)) × (soon : Bool) × (first : Result (List ℕ) CapFault)
+    (mid : ReaderState BeatParserState) × (between : Told) × (soon : Bool) × (first : Result (List ℕ) CapFault)
     × ReadsPiece old mid before between soon first × ReadsOnLevels mid new between now soon ended first result
 
 -- a beat was read, or the end or a fault came
-abbrev pub ReadsBeat : ReaderState BeatParserState → ReaderState BeatParserState → Option (List ℕ) → Option (List ℕ) → Bool → Result BeatIn CapFault → Type 0
+abbrev pub ReadsBeat : ReaderState BeatParserState → ReaderState BeatParserState → Told → Told → Bool → Result BeatIn CapFault → Type 0
 ReadsBeat old new before now ended result =
     (answer : Result (Option (List ℕ)) InFault) × lines.Nexts beat_at old new before now ended answer × (result ≡ beat_of answer new.buffer.taken)

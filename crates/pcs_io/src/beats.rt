@@ -88,7 +88,7 @@ impl Beats {
     pub fn header<S: Source>(&mut self, source: &mut S) -> Result<Header, CapFault>
         requires { self.old.front ≡ Front.Unread }
         ensures answers { (h : History) → Stands self.old h → (got : List ℕ)
-            × HeaderAnswers h.limit got (S.left source.old) (S.left source.new) (S.ended source.new) result
+            × HeaderAnswers h.limit got (S.told source.old) (S.told source.new) (S.ended source.new) result
             × Stands self.new (header_told h got result) }
         ensures front { IfOk result (λ header. self.new.front ≡ Front.Read header) }
         ensures range { IfOk result IsInRange }
@@ -109,7 +109,7 @@ impl Beats {
     pub fn levels_header<S: Source>(&mut self, source: &mut S) -> Result<LevelsHeader, CapFault>
         requires { self.old.front ≡ Front.Unread }
         ensures answers { (h : History) → Stands self.old h → (got : List ℕ)
-            × HeaderAnswersBy levels_header_at h.limit got (S.left source.old) (S.left source.new) (S.ended source.new) result
+            × HeaderAnswersBy levels_header_at h.limit got (S.told source.old) (S.told source.new) (S.ended source.new) result
             × Stands self.new (header_told h got result) }
         ensures front { IfOk result (λ header. self.new.front ≡ Front.ReadLevels header) }
         ensures range { IfOk result IsLevelsHeader }
@@ -130,9 +130,9 @@ impl Beats {
     pub fn next<S: Source>(&mut self, source: &mut S) -> Result<BeatIn, CapFault>
         requires { IsSome (header_read self.old.front) }
         ensures answers { (h : History) (header : Header) → Stands self.old h → self.old.front ≡ Front.Read header
-            → Tells h.course h header self.old self.new (S.left source.old) (S.left source.new) (S.ended source.new) result }
+            → Tells h.course h header self.old self.new (S.told source.old) (S.told source.new) (S.ended source.new) result }
         ensures levels { (h : History) (header : LevelsHeader) → Stands self.old h → self.old.front ≡ Front.ReadLevels header
-            → TellsBy levels_header_at h.course h header self.old self.new (S.left source.old) (S.left source.new) (S.ended source.new) result }
+            → TellsBy levels_header_at h.course h header self.old self.new (S.told source.old) (S.told source.new) (S.ended source.new) result }
         ensures front { self.new.front ≡ self.old.front }
         ensures nearer { IsNearerEnd self.old self.new result }
         ensures later { S.faults source.old ≤ S.faults source.new }
@@ -180,7 +180,7 @@ fn read_front<S: Source>(
 ) -> Result<Header, CapFault>
     requires { reader.old.standing ≡ Standing.Going }
     ensures range { IfOk result IsInRange }
-    ensures answers { FrontReads reader.old reader.new (S.left source.old) (S.left source.new) (S.ended source.new) result }
+    ensures answers { FrontReads reader.old reader.new (S.told source.old) (S.told source.new) (S.ended source.new) result }
     ensures later { S.faults source.old ≤ S.faults source.new }
     ensures read { IsErrOf result CapFault.Read → Rose (S.faults source.old) (S.faults source.new) }
 {
@@ -199,7 +199,7 @@ fn read_levels_front<S: Source>(
 ) -> Result<LevelsHeader, CapFault>
     requires { reader.old.standing ≡ Standing.Going }
     ensures range { IfOk result IsLevelsHeader }
-    ensures answers { LevelsFrontReads reader.old reader.new (S.left source.old) (S.left source.new) (S.ended source.new) result }
+    ensures answers { LevelsFrontReads reader.old reader.new (S.told source.old) (S.told source.new) (S.ended source.new) result }
     ensures later { S.faults source.old ≤ S.faults source.new }
     ensures read { IsErrOf result CapFault.Read → Rose (S.faults source.old) (S.faults source.new) }
 {
@@ -253,7 +253,7 @@ fn read_piece<S: Source>(
     reader: &mut Reader<BeatParser>,
     source: &mut S,
 ) -> Result<[u8; 16], CapFault>
-    ensures answers { ReadsPiece reader.old reader.new (S.left source.old) (S.left source.new) (S.ended source.new) result }
+    ensures answers { ReadsPiece reader.old reader.new (S.told source.old) (S.told source.new) (S.ended source.new) result }
     ensures later { S.faults source.old ≤ S.faults source.new }
     ensures going { IfOk result (λ _. reader.new.standing ≡ Standing.Going) }
     ensures read { IsErrOf result CapFault.Read → (Rose (S.faults source.old) (S.faults source.new)) ⊎ (reader.old.standing ≡ Standing.Failed InFault.Read) }
@@ -269,7 +269,7 @@ fn read_piece<S: Source>(
 
 // Reads a beat.
 fn read_beat<S: Source>(reader: &mut Reader<BeatParser>, source: &mut S) -> Result<BeatIn, CapFault>
-    ensures answers { ReadsBeat reader.old reader.new (S.left source.old) (S.left source.new) (S.ended source.new) result }
+    ensures answers { ReadsBeat reader.old reader.new (S.told source.old) (S.told source.new) (S.ended source.new) result }
     ensures later { S.faults source.old ≤ S.faults source.new }
     ensures read { IsErrOf result CapFault.Read → (Rose (S.faults source.old) (S.faults source.new)) ⊎ (reader.old.standing ≡ Standing.Failed InFault.Read) }
 {

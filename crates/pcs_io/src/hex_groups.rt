@@ -1,4 +1,6 @@
-// Digits that are decoded by groups of thirty-two.
+// Digits that are decoded by groups of thirty-two, through the kit's reader of identifiers: thirty-two
+// digits of hexadecimal are a UUID in its simple form, and `uuid` reads them by a table, without a
+// branch on each digit as `hex` has. What it refuses and what is left over goes to `hex`.
 ghost use Rattle.std.specs.Prelude.{◌≡◌, ◌≤◌, ◌*◌, ◌/◌, length, IsTrue, Ok};
 ghost use Rattle.hex.specs.Hex.{decode_of, decode_pairs};
 

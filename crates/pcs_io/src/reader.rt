@@ -84,9 +84,11 @@ impl<P: Parser + Drop> Reader<P> {
         self.input.unused()
     }
 
-    /// What may still be answered is no more than the limit, and what waits fits the buffer.
+    /// What was taken and what may still be answered is no more than the limit, and what waits fits
+    /// the buffer.
     #[inline]
     pub fn stays_within(&self)
+        ensures taken { self.now.buffer.taken ≤ self.now.buffer.limit }
         ensures limit { octets_ahead self.now ≤ self.now.buffer.limit }
         ensures buffer { length self.now.buffer.unused ≤ 65536 }
     {
@@ -122,7 +124,7 @@ impl<P: Parser + Drop> Reader<P> {
 
     /// Reads the next line, and answers whether there is one. It takes no memory.
     pub fn next<S: Source>(&mut self, source: &mut S) -> Result<bool, InFault>
-        ensures nexts { Nexts P.line_at self.old self.new (S.left source.old) (S.left source.new) (S.ended source.new) (answer_of result (P.line self.new.parser)) }
+        ensures nexts { Nexts P.line_at self.old self.new (S.told source.old) (S.told source.new) (S.ended source.new) (answer_of result (P.line self.new.parser)) }
         ensures going { result ≡ Ok true → self.new.standing ≡ Standing.Going }
         ensures later { S.faults source.old ≤ S.faults source.new }
         ensures read { IsErrOf result InFault.Read → (Rose (S.faults source.old) (S.faults source.new)) ⊎ (self.old.standing ≡ Standing.Failed InFault.Read) }
@@ -134,7 +136,7 @@ impl<P: Parser + Drop> Reader<P> {
 
     // The same, by its state alone.
     fn advance<S: Source>(&mut self, source: &mut S) -> Result<bool, InFault>
-        ensures calls { Calls P.line_at self.old.standing self.old self.new (S.left source.old) (S.left source.new) (S.ended source.new) (P.line self.new.parser) result }
+        ensures calls { Calls P.line_at self.old.standing self.old self.new (S.told source.old) (S.told source.new) (S.ended source.new) (P.line self.new.parser) result }
         ensures room { self.new.room ≡ self.old.room }
         ensures later { S.faults source.old ≤ S.faults source.new }
         ensures read { IsErrOf result InFault.Read → (Rose (S.faults source.old) (S.faults source.new)) ⊎ (self.old.standing ≡ Standing.Failed InFault.Read) }
@@ -171,7 +173,7 @@ fn next_line<P: Parser, S: Source>(
     requires taken { input.old.taken ≤ input.old.limit }
     requires limit { input.old.limit < 2 ^ 64 }
     requires lines { lines + length input.old.unused ≤ input.old.taken }
-    ensures answers { FindsLine P.line_at lines input.old input.new (S.left source.old) (S.left source.new) (S.ended source.new) (P.line parser.new) result }
+    ensures answers { FindsLine P.line_at lines input.old input.new (S.told source.old) (S.told source.new) (S.ended source.new) (P.line parser.new) result }
     ensures taken { input.new.taken ≤ input.new.limit }
     ensures room { P.room parser.new ≡ P.room parser.old }
     ensures later { S.faults source.old ≤ S.faults source.new }
@@ -223,8 +225,8 @@ fn read_line<P: Parser, S: Source>(
     requires taken { input.old.taken ≤ input.old.limit }
     requires few { length input.old.unused ≤ 65536 }
     ensures finds { MatchResult result
-        (Finds P.line_at input.old input.new (S.left source.old) (S.left source.new) (S.ended source.new) (P.line parser.new))
-        (λ _. FailsOpen P.line_at input.old input.new (S.left source.old) (S.left source.new)) }
+        (Finds P.line_at input.old input.new (S.told source.old) (S.told source.new) (S.ended source.new) (P.line parser.new))
+        (λ _. FailsOpen P.line_at input.old input.new (S.told source.old) (S.told source.new)) }
     ensures taken { input.new.taken ≤ input.new.limit }
     ensures room { P.room parser.new ≡ P.room parser.old }
     ensures cause { HasCause (S.faults source.old) (S.faults source.new) result }

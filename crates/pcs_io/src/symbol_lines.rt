@@ -51,7 +51,7 @@ impl SymbolLines {
     /// fault every further call answers the same and reads nothing.
     pub fn next<S: Source>(&mut self, source: &mut S) -> Result<Option<SymbolLine<'_>>, InFault>
         ensures* answers { sem 𝓛 (Rests the_row self.entry (λ new.
-            Nexts symbol_line_at self.old new (S.left source.old) (S.left source.new) (S.ended source.new) (content result))) }
+            Nexts symbol_line_at self.old new (S.told source.old) (S.told source.new) (S.ended source.new) (content result))) }
         ensures fits { FitsSymbols result }
         ensures later { S.faults source.old ≤ S.faults source.new }
         ensures read { IsErrOf result InFault.Read → (Rose (S.faults source.old) (S.faults source.new)) ⊎ (self.old.standing ≡ Standing.Failed InFault.Read) }

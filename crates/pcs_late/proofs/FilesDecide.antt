@@ -1,5 +1,6 @@
 -- A packet capture decides how `pcap` ends, where no stream failed and there was memory.
-use Rattle.std.proofs.Common.{◌≡◌, ℕ, ◌+◌, ◌^◌, ◌<◌, ◌≤◌, ◌⊎◌, inl, inr, Bool, true, false, nat_lt, cond, List, [], ◌∷◌, ◌++◌, length, sym, ap, ap₂, subst, refl, ◌∙◌, arith, append-nil, length-append}
+use Rattle.std.proofs.Common.{◌≡◌, ℕ, ◌+◌, ◌-◌, ◌^◌, ◌<◌, ◌≤◌, ◌⊎◌, inl, inr, Bool, true, false, nat_lt, cond, List, [], ◌∷◌, ◌++◌, length, take, sym, ap, ap₂, subst, refl, ◌∙◌, arith, append-nil, length-append}
+use Rattle.std.proofs.lemmas.Bool.{le-ltb}
 use Rattle.std.proofs.lemmas.Bool.Decides.{nat_tests}
 use Rattle.pcs_io.specs.TextLines.{text_line_at}
 use Rattle.pcs_io.specs.TextGrammar.{text_grammar}
@@ -13,8 +14,8 @@ use Rattle.pcap_frames.proofs.Readings.{same-record, same-header}
 use Rattle.pcap_frames.proofs.Told.{begins-more}
 use Rattle.pcs_drive.specs.Seen.{Seen}
 use Rattle.pcs_drive.specs.Deciding.{IsSettled, Given}
-use Rattle.pcs_drive.specs.declared.outcome.Outcome.TheVariants.{Done, ReadFault, WriteFault, NoMemory, BadLine, BadHeader, TooTight, Cut, NotAligned, TooLong}
-use Rattle.pcs_drive.proofs.Deciding.{front, all, nothing-left, lines-decide}
+use Rattle.pcs_drive.specs.declared.outcome.Outcome.TheVariants.{Done, ReadFault, WriteFault, NoMemory, BadHeader, TooLong}
+use Rattle.pcs_drive.proofs.Deciding.{front, all, reach, reach-front, all-reached, limit-reached, lines-decide}
 use Rattle.pcs_late.specs.Laws.{IsSettledPcap, PcapDecides}
 use Rattle.pcs_late.specs.Unpacking.{IsNoHeader, IsBadRecord, Unpacked}
 use Rattle.pcs_late.specs.declared.pcap_outcome.PcapOutcome.{PcapOutcome}
@@ -49,20 +50,20 @@ verdict Open [] count size = cond (nat_lt size (2 ^ 40)) (Usual Done) (Usual Too
 verdict Open (x ∷ rest) count size = cond (nat_lt size (2 ^ 40)) (BadRecord (count + 1) Ended) (Usual TooLong)
 
 module _ (short : Bool) (input : List ℕ) where
-  -- the records of the input stop, and that tells the outcome
+  -- the records of the input, as far as it may be read, stop, and that tells the outcome
   pub record Stops (outcome : PcapOutcome) : Type 0 where
     pub order : Order
     pub frames : List (List ℕ)
     pub rest : List ℕ
-    pub opens : Opens order short input frames rest
+    pub opens : Opens order short (reach input) frames rest
     pub stop : IsStop (record_at order short rest)
     pub is : outcome ≡ verdict (record_at order short rest) rest (length frames) (length input)
 
   -- or there is no header
   abbrev pub Stopped : PcapOutcome → Type 0
   Stopped outcome =
-      ((bad : Refusal) × (header_at input ≡ Wrong bad) × (outcome ≡ Usual (BadHeader bad)))
-      ⊎ ((header_at input ≡ Short) × (outcome ≡ Usual (BadHeader (record { place = length input; cut = true }))))
+      ((bad : Refusal) × (header_at (reach input) ≡ Wrong bad) × (outcome ≡ Usual (BadHeader bad)))
+      ⊎ ((header_at (reach input) ≡ Short) × (outcome ≡ Usual (BadHeader (record { place = length input; cut = true }))))
       ⊎ Stops outcome
 
   one-of : (first second : PcapOutcome) → Stops first → Stops second → first ≡ second
@@ -92,7 +93,7 @@ module _ (short : Bool) (input : List ℕ) where
         order = whole.0;
         frames = frames;
         rest = [];
-        opens = subst (λ os. Opens whole.0 short os frames []) (sym same) whole.1;
+        opens = subst (λ os. Opens whole.0 short os frames []) (sym (all-reached input octets same (omega (arith, low)))) whole.1;
         stop = tt;
         is = rw few refl;
       }))
@@ -111,75 +112,70 @@ module _ (short : Bool) (input : List ℕ) where
   bad-record : (seen : Seen) → Given seen input → (frames : List (List ℕ)) (kind : RecordKind) → IsBadRecord short seen frames kind
       → Stopped (BadRecord (length frames + 1) kind)
   bad-record seen g frames kind (octets, order, rest, opens, inl c) =
-      let same = front seen.left_before seen.left_after input g.rest octets g.before g.after c.0 in
-      let refused = refused-more order short rest g.rest kind c.1 in
+      let more = take (2 ^ 40 - length octets) g.rest in
+      let same = reach-front input octets g.rest (front seen input octets g c.0) c.1 in
+      let refused = refused-more order short rest more kind c.2 in
       inr (inr (record {
         order = order;
         frames = frames;
-        rest = rest ++ g.rest;
+        rest = rest ++ more;
         opens =
-            subst (λ os. Opens order short os frames (rest ++ g.rest)) (sym same)
-            (opens.0 ++ g.rest, header-more octets g.rest order opens.0 opens.1, begins-more order short opens.0 frames rest g.rest opens.2);
+            subst (λ os. Opens order short os frames (rest ++ more)) (sym same)
+            (opens.0 ++ more, header-more octets more order opens.0 opens.1, begins-more order short opens.0 frames rest more opens.2);
         stop = subst IsStop (sym refused) tt;
         is = rw refused refl;
       }))
   bad-record seen g frames kind (octets, order, rest, opens, inr c) =
-      let same = all seen input g.rest octets g.before g.after c.1 in
+      let same = all seen input octets g c.1 in
       let few : nat_lt (length input) (2 ^ 40) ≡ true = rw same (let low = c.2 in grind (arith, nat_tests)) in
       inr (inr (record {
         order = order;
         frames = frames;
         rest = rest;
-        opens = subst (λ os. Opens order short os frames rest) (sym same) opens;
+        opens = subst (λ os. Opens order short os frames rest) (sym (all-reached input octets same (omega (arith, c.2)))) opens;
         stop = open-stop order rest c.3;
         is = ap (λ k. BadRecord (length frames + 1) k) c.0 ∙ rw c.3 (cut-verdict rest (length frames) c.4 few);
       }))
 
   no-header : (seen : Seen) → Given seen input → (bad : Refusal) → IsNoHeader seen bad → Stopped (Usual (BadHeader bad))
   no-header seen g bad (octets, inl c) =
-      let same = front seen.left_before seen.left_after input g.rest octets g.before g.after c.0 in
-      inl (bad, ap header_at same ∙ header-stays octets g.rest bad c.1, refl)
+      let same = reach-front input octets g.rest (front seen input octets g c.0) (omega (arith, c.2)) in
+      inl (bad, ap header_at same ∙ header-stays octets (take (2 ^ 40 - length octets) g.rest) bad c.1, refl)
   no-header seen g bad (octets, inr c) =
-      let same = all seen input g.rest octets g.before g.after c.1 in
-      inr (inl (ap header_at same ∙ c.3, ap (λ b. Usual (BadHeader b)) c.0 ∙ rw same refl))
+      let same = all seen input octets g c.1 in
+      inr (inl (ap header_at (all-reached input octets same (omega (arith, c.2))) ∙ c.3, ap (λ b. Usual (BadHeader b)) c.0 ∙ rw same refl))
 
-  pub stopped : (gap : ℕ) (seen : Seen) (outcome : PcapOutcome) → Given seen input → length input ≤ 2 ^ 40 → Unpacked gap short seen outcome
+  pub stopped : (gap : ℕ) (seen : Seen) (outcome : PcapOutcome) → Given seen input → Unpacked gap short seen outcome
       → IsSettledPcap outcome → Stopped outcome
-  stopped gap seen (Usual Done) g low c s = stopped-done c.0 c.1 (all seen input g.rest c.0 g.before g.after c.2) c.3 c.4
-  stopped gap seen (Usual ReadFault) g low c s = absurd (s.reads refl)
-  stopped gap seen (Usual WriteFault) g low c s = absurd (s.writes refl)
-  stopped gap seen (Usual NoMemory) g low c s = absurd c
-  stopped gap seen (Usual (BadLine number kind)) g low c s = absurd c
-  stopped gap seen (Usual (BadHeader bad)) g low c s = no-header seen g bad c.0
-  stopped gap seen (Usual (TooTight frame)) g low c s = absurd c
-  stopped gap seen (Usual (Cut over)) g low c s = absurd c
-  stopped gap seen (Usual NotAligned) g low c s = absurd c
-  stopped gap seen (Usual TooLong) g low c s =
+  stopped gap seen (Usual Done) g c s = stopped-done c.0 c.1 (all seen input c.0 g c.2) c.3 c.4
+  stopped gap seen (Usual ReadFault) g c s = absurd (s.reads refl)
+  stopped gap seen (Usual WriteFault) g c s = absurd (s.writes refl)
+  stopped gap seen (Usual (BadHeader bad)) g c s = no-header seen g bad c.0
+  stopped gap seen (Usual TooLong) g c s =
       let octets = c.0 in
       let order = c.2.1 in
       let ends = c.2.2 in
-      let same = front seen.left_before seen.left_after input g.rest octets g.before g.after c.2.0 in
-      let none = nothing-left g.rest (omega (arith, low, c.3, ap length same, length-append octets g.rest)) in
-      let is : input ≡ octets = same ∙ ap (λ r. octets ++ r) none ∙ append-nil octets in
-      let many : nat_lt (length input) (2 ^ 40) ≡ false = rw (is, c.3) refl in
+      let parts = front seen input octets g c.2.0 in
+      let many : nat_lt (length input) (2 ^ 40) ≡ false = le-ltb (length input) (2 ^ 40) (omega (arith, c.3, ap length parts, length-append octets g.rest)) in
       inr (inr (record {
         order = order;
         frames = c.1;
         rest = ends.0;
-        opens = subst (λ os. Opens order short os c.1 ends.0) (sym is) ends.1;
+        opens = subst (λ os. Opens order short os c.1 ends.0) (sym (limit-reached input octets g.rest parts c.3)) ends.1;
         stop = open-stop order ends.0 ends.2;
         is = rw ends.2 (long-verdict ends.0 (length c.1) many);
       }))
-  stopped gap seen (BadRecord number kind) g low c s = subst (λ n. Stopped (BadRecord n kind)) (sym c.1) (bad-record seen g c.0 kind c.2)
+  stopped gap seen (BadRecord number kind) g c s = subst (λ n. Stopped (BadRecord n kind)) (sym c.1) (bad-record seen g c.0 kind c.2)
+  stopped gap seen outcome g c s = absurd c
 
 pub pcap-decides : PcapDecides
-pcap-decides gap short true input low one other first second g h (x, is, inl a) (y, so, inl b) s t =
+pcap-decides gap short true input one other first second g h (x, is, inl a) (y, so, inl b) s t =
     let settled-first : IsSettled x = record { reads = λ e. s.reads (is ∙ ap Usual e); writes = λ e. s.writes (is ∙ ap Usual e); memory = λ e. s.memory (is ∙ ap Usual e) } in
     let settled-second : IsSettled y = record { reads = λ e. t.reads (so ∙ ap Usual e); writes = λ e. t.writes (so ∙ ap Usual e); memory = λ e. t.memory (so ∙ ap Usual e) } in
-    is ∙ ap Usual (lines-decide text_line_at text_grammar pcap_octets input low one other x y g h a.converted b.converted settled-first settled-second) ∙ sym so
-pcap-decides gap short true input low one other first second g h (x, is, inr none) b s t = absurd (s.memory (is ∙ ap Usual none.0))
-pcap-decides gap short true input low one other first second g h (x, is, inl a) (y, so, inr none) s t = absurd (t.memory (so ∙ ap Usual none.0))
-pcap-decides gap short false input low one other first second g h (inl a) (inl b) s t =
-    one-way short input first second (stopped short input gap one first g low a s) (stopped short input gap other second h low b t)
-pcap-decides gap short false input low one other first second g h (inr none) b s t = absurd (s.memory none.0)
-pcap-decides gap short false input low one other first second g h (inl a) (inr none) s t = absurd (t.memory none.0)
+    is ∙ ap Usual (lines-decide text_line_at text_grammar pcap_octets input one other x y g h a.converted b.converted settled-first settled-second) ∙ sym so
+pcap-decides gap short true input one other first second g h (x, is, inr none) b s t = absurd (s.memory (is ∙ ap Usual none.0))
+pcap-decides gap short true input one other first second g h (x, is, inl a) (y, so, inr none) s t = absurd (t.memory (so ∙ ap Usual none.0))
+pcap-decides gap short false input one other first second g h (inl a) (inl b) s t =
+    one-way short input first second (stopped short input gap one first g a s) (stopped short input gap other second h b t)
+pcap-decides gap short false input one other first second g h (inr none) b s t = absurd (s.memory none.0)
+pcap-decides gap short false input one other first second g h (inl a) (inr none) s t = absurd (t.memory none.0)

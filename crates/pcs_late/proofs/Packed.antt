@@ -5,13 +5,13 @@ use Rattle.std.proofs.lemmas.List.Concat.{flat_map-append}
 use Rattle.pcs_io.specs.Octets.{AppendsFront, TakesWhereTold}
 use Rattle.pcs_io.specs.TextLines.{text_line_at}
 use Rattle.pcs_io.proofs.Progress.{fresh-near}
-use Rattle.pcs_io.proofs.Told.{consumes-none, takes-consumed}
+use Rattle.pcs_io.proofs.Told.{gives-none, takes-consumed}
 use Rattle.pcap_frames.specs.Pcap.{header_octets, pcap_octets, record_octets}
 use Rattle.pcs_io.specs.declared.fault.Kind.{Kind}
 use Rattle.pcs_drive.specs.Seen.{Seen, TookAll, Written, WriteFailed}
 use Rattle.pcs_drive.specs.LineCommand.{Converted, IsRefused}
 use Rattle.pcs_drive.specs.declared.outcome.Outcome.{Outcome}
-use Rattle.pcs_drive.specs.declared.outcome.Outcome.TheVariants.{Done, ReadFault, WriteFault, NoMemory, BadLine, BadHeader, TooTight, Cut, NotAligned, TooLong}
+use Rattle.pcs_drive.specs.declared.outcome.Outcome.TheVariants.{Done, ReadFault, WriteFault, BadLine, TooLong}
 use Rattle.pcs_drive.proofs.Copying.{rose-after}
 use Rattle.pcs_drive.proofs.WritingLemmas.{front-more, wrote-front}
 use Rattle.pcs_late.specs.Packing.{records_text, AppendsFirst, Packed}
@@ -67,20 +67,16 @@ module _ (seen : Seen) (mid : Option (List ℕ)) (writes : ℕ) (later : seen.wr
 
   pub packed : (outcome : Outcome) → Converted text_line_at records_text behind_header outcome → Packed seen outcome
   packed Done c = let w = both c.1 c.5 in record { converted = (c.0, c.1, took-all c.0 c.2, c.3, c.4, w.0); header_first = inr w.1 }
-  packed ReadFault c = let w = both c.1 c.5 in record { converted = (c.0, c.1, c.2, c.3, c.4, w.0); header_first = inr w.1 }
+  packed ReadFault c = let w = both c.1 c.6 in record { converted = (c.0, c.1, c.2, c.3, c.4, c.5, w.0); header_first = inr w.1 }
   packed WriteFault c =
-      let w = front-behind seen.held_before mid seen.held_after header_octets (records_text c.1) (pcap_octets c.1) (behind c.1) a c.7 in
-      record { converted = (c.0, c.1, c.2, rose-after seen.writes_before writes seen.writes_after later c.3, c.4, c.5, c.6, w.0); header_first = inr w.1 }
-  packed NoMemory c = absurd c
+      let w = front-behind seen.held_before mid seen.held_after header_octets (records_text c.1) (pcap_octets c.1) (behind c.1) a c.8 in
+      record { converted = (c.0, c.1, c.2, rose-after seen.writes_before writes seen.writes_after later c.3, c.4, c.5, c.6, c.7, w.0); header_first = inr w.1 }
   packed (BadLine number kind) c = let w = both c.1 c.4 in record { converted = (c.0, c.1, c.2, refused c.0 c.1 kind c.3, w.0); header_first = inr w.1 }
-  packed (BadHeader bad) c = absurd c
-  packed (TooTight frame) c = absurd c
-  packed (Cut rest) c = absurd c
-  packed NotAligned c = absurd c
   packed TooLong c = let w = both c.1 c.5 in record { converted = (c.0, c.1, c.2, c.3, c.4, w.0); header_first = inr w.1 }
+  packed outcome c = absurd c
 
 -- the header couldn't be written, and nothing was taken
-pub header-failed : (seen : Seen) → seen.left_after ≡ seen.left_before → WriteFailed seen → AppendsFront seen.held_before seen.held_after header_octets
+pub header-failed : (seen : Seen) → seen.told_after ≡ seen.told_before → WriteFailed seen → AppendsFront seen.held_before seen.held_after header_octets
     → Packed seen WriteFault
 header-failed seen same rose front = record {
   converted = (
@@ -88,7 +84,8 @@ header-failed seen same rose front = record {
     [],
     [],
     rose,
-    subst (λ o. TakesWhereTold seen.left_before o []) (sym same) (takes-consumed seen.left_before seen.left_before [] (consumes-none seen.left_before)),
+    subst (λ o. TakesWhereTold seen.told_before o []) (sym same) (takes-consumed seen.told_before seen.told_before [] (gives-none seen.told_before)),
+    omega arith,
     refl,
     fresh-near text_line_at [] (omega arith),
     front-more seen.held_before seen.held_after header_octets [] front,

@@ -14,20 +14,19 @@ use Rattle.pcs_late.specs.declared.pcap_outcome.PcapOutcome.{PcapOutcome}
 use Rattle.pcs_late.specs.declared.pcap_outcome.PcapOutcome.TheVariants.{Usual}
 use Rattle.pcs_late.proofs.FilesDecide.{one-way, stopped, stopped-done}
 
-module _ (seen : Seen) (octets rest : List ℕ) (b : seen.left_before ≡ Some octets) (a : seen.left_after ≡ Some rest) (low : length octets < 2 ^ 40)
+module _ (seen : Seen) (octets : List ℕ) (given : Given seen octets) (low : length octets < 2 ^ 40)
     (reads : ¬ ReadFailed seen) (writes : ¬ WriteFailed seen) where
   pub pcap-complete : (gap : ℕ) (short write : Bool) (outcome : PcapOutcome) → IsPcapInput short write octets → PcapAnswers gap short write seen outcome
       → (outcome ≡ Usual Done) ⊎ (outcome ≡ Usual NoMemory)
   pcap-complete gap short true outcome input (usual, is, inl c) =
-      inl (is ∙ ap Usual (converted text_line_at text_grammar pcap_octets seen octets rest input.0 usual b a input.1 low reads writes c.converted))
+      inl (is ∙ ap Usual (converted text_line_at text_grammar pcap_octets seen octets input.0 usual given input.1 low reads writes c.converted))
   pcap-complete gap short true outcome input (usual, is, inr none) = inr (is ∙ ap Usual none.0)
   pcap-complete gap short false outcome input (inl c) =
-      let given : Given seen octets = record { before = b; rest = rest; after = a } in
       let is : IsSettledPcap outcome = record {
         reads = λ e. reads (subst (Unpacked gap short seen) e c).0;
         writes = λ e. writes (subst (Unpacked gap short seen) e c).0;
         memory = λ e. subst (Unpacked gap short seen) e c;
       } in
-      inl (one-way short octets outcome (Usual Done) (stopped short octets gap seen outcome given (omega (arith, low)) c is)
+      inl (one-way short octets outcome (Usual Done) (stopped short octets gap seen outcome given c is)
       (stopped-done short octets octets input.0 refl low input.1))
   pcap-complete gap short false outcome input (inr none) = inr none.0

@@ -1,5 +1,5 @@
 -- What the commands of the levels say of one another, and that the input decides how `pcap` ends.
-use Rattle.std.specs.Prelude.{◌≡◌, ◌≢◌, ℕ, ◌^◌, ◌<◌, ◌≤◌, Bool, List, length, slice_index}
+use Rattle.std.specs.Prelude.{◌≡◌, ◌≢◌, ℕ, ◌<◌, Bool, List, slice_index}
 use Rattle.pma_link.specs.Levels.{level_beats}
 use Rattle.pcs_io.specs.Captures.{OpensWhole, OpensWholeBy, levels_header_at}
 use Rattle.pcs_io.specs.declared.header.Header.{Header}
@@ -38,5 +38,5 @@ pub record IsSettledPcap (outcome : PcapOutcome) : Type 0 where
 -- two runs of `pcap` on this input end in the same way
 abbrev pub PcapDecides : Type 0
 PcapDecides =
-    (gap : ℕ) (short write : Bool) (input : List ℕ) → length input ≤ 2 ^ 40 → (one other : Seen) (first second : PcapOutcome) → Given one input → Given other input
+    (gap : ℕ) (short write : Bool) (input : List ℕ) (one other : Seen) (first second : PcapOutcome) → Given one input → Given other input
     → PcapAnswers gap short write one first → PcapAnswers gap short write other second → IsSettledPcap first → IsSettledPcap second → first ≡ second

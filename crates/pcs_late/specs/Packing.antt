@@ -18,4 +18,4 @@ AppendsFirst before after first = IfSome before (λ xs. IfSome after (λ ys. (re
 -- The lines become a pcap file of their frames, whose header is written whole before an octet is taken.
 pub record Packed (seen : Seen) (outcome : Outcome) : Type 0 where
   pub converted : Converted text_line_at pcap_octets seen outcome
-  pub header_first : (seen.left_after ≡ seen.left_before) ⊎ AppendsFirst seen.held_before seen.held_after header_octets
+  pub header_first : (seen.told_after ≡ seen.told_before) ⊎ AppendsFirst seen.held_before seen.held_after header_octets

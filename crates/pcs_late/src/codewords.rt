@@ -17,7 +17,7 @@ use std::alloc::Global;
 /// Reads symbol lines, and writes the codeword of each message and the codeword near each word.
 pub fn kr<R: Source, W: Sink>(alloc: Global, source: &mut R, sink: &mut W) -> Outcome
     ensures { OrNoMemory (Converted symbol_line_at kr_text)
-        (seen R.left R.ended R.faults W.held W.faults source.old source.new sink.old sink.new) result }
+        (seen R.told R.ended R.faults W.held W.faults source.old source.new sink.old sink.new) result }
 {
     match SymbolLines::open(alloc, LIMIT) {
         Ok(mut lines) => kr_opened(&mut lines, source, sink),
@@ -33,7 +33,7 @@ pub fn kr_opened<R: Source, W: Sink>(
 ) -> Outcome
     requires { Stands symbol_line_at lines.old (opened (2 ^ 40)) }
     ensures { Converted symbol_line_at kr_text
-        (seen R.left R.ended R.faults W.held W.faults source.old source.new sink.old sink.new) result }
+        (seen R.told R.ended R.faults W.held W.faults source.old source.new sink.old sink.new) result }
 {
     let mut output = Output::new();
     drive_lines(

@@ -15,7 +15,7 @@ use std::alloc::Global;
 /// skew. Bit j of the phase tells whether the stream of level lane j is read from its bit 1 on.
 pub fn demux<R: Source, W: Sink>(alloc: Global, phase: u8, source: &mut R, sink: &mut W) -> Outcome
     ensures { FromLevels (demultiplexed phase)
-        (seen R.left R.ended R.faults W.held W.faults source.old source.new sink.old sink.new) result }
+        (seen R.told R.ended R.faults W.held W.faults source.old source.new sink.old sink.new) result }
 {
     match open_levels(alloc, source) {
         Ok((mut beats, header)) => {

@@ -19,7 +19,7 @@ pub fn mux<R: Source, W: Sink>(
     sink: &mut W,
 ) -> Outcome
     ensures { FromCapture (multiplexed precode)
-        (seen R.left R.ended R.faults W.held W.faults source.old source.new sink.old sink.new) result }
+        (seen R.told R.ended R.faults W.held W.faults source.old source.new sink.old sink.new) result }
 {
     match open_capture(alloc, source) {
         Ok((mut beats, header)) => {

@@ -20,7 +20,7 @@ pub fn pcap_write_opened<R: Source, W: Sink>(
     sink: &mut W,
 ) -> Outcome
     requires { Stands text_line_at lines.old (opened (2 ^ 40)) }
-    ensures { Packed (seen R.left R.ended R.faults W.held W.faults source.old source.new sink.old sink.new) result }
+    ensures { Packed (seen R.told R.ended R.faults W.held W.faults source.old source.new sink.old sink.new) result }
 {
     if let Err(Failed) = put_all(sink, &pcap_header()) {
         return Outcome::WriteFault;

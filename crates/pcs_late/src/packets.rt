@@ -22,7 +22,7 @@ pub fn pcap<R: Source, W: Sink>(
     sink: &mut W,
 ) -> PcapOutcome
     ensures { PcapAnswers gap short write
-        (seen R.left R.ended R.faults W.held W.faults source.old source.new sink.old sink.new) result }
+        (seen R.told R.ended R.faults W.held W.faults source.old source.new sink.old sink.new) result }
 {
     if write {
         return match TextLines::open(alloc, LIMIT) {

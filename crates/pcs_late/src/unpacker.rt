@@ -21,7 +21,7 @@ pub fn pcap_opened<R: Source, W: Sink>(
 ) -> PcapOutcome
     requires { IsOpened reader.old reader.old.short }
     ensures { Unpacked gap reader.old.short
-        (seen R.left R.ended R.faults W.held W.faults source.old source.new sink.old sink.new) result }
+        (seen R.told R.ended R.faults W.held W.faults source.old source.new sink.old sink.new) result }
 {
     let mut output = Output::new();
     match convert(reader, gap, &mut output, source, sink) {
@@ -42,7 +42,7 @@ fn convert<R: Source, W: Sink>(
     requires opened { IsOpened reader.old reader.old.short }
     requires empty { output.old ≡ [] }
     ensures { Unpacks gap reader.old.short
-        (seen R.left R.ended R.faults W.held W.faults source.old source.new sink.old sink.new) result }
+        (seen R.told R.ended R.faults W.held W.faults source.old source.new sink.old sink.new) result }
 {
     match reader.header(source) {
         Ok(()) => {}

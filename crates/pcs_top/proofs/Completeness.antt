@@ -1,5 +1,5 @@
 -- An input in the grammar is turned into its text, and the input decides how a command ends.
-use Rattle.std.proofs.Common.{◌≡◌, ℕ, ◌^◌, ◌<◌, ◌⊎◌, inl, inr, List, [], ◌++◌, length, Some, Result, Ok, Err, sym, ◌∙◌, ap, subst, refl, append_assoc, arith, ◌∷◌, ◌+◌, ◌≤◌, length-append}
+use Rattle.std.proofs.Common.{◌≡◌, ℕ, ◌-◌, ◌^◌, ◌<◌, ◌⊎◌, inl, inr, List, [], ◌++◌, length, take, Some, Result, Ok, Err, sym, ◌∙◌, ap, subst, refl, append_assoc, arith, ◌∷◌, ◌+◌, ◌≤◌, length-append}
 use Rattle.std.proofs.lemmas.List.{reverse-append}
 use Rattle.mac_columns.specs.declared.column.Column.{Column}
 use Rattle.pcs_watch.specs.Watching.{Seen as Watched}
@@ -25,7 +25,7 @@ use Rattle.pcs_drive.specs.Seen.{Seen, ReadFailed, WriteFailed}
 use Rattle.pcs_drive.specs.LineCommand.{Converted, OrNoMemory}
 use Rattle.pcs_drive.specs.CaptureCommand.{CaptureText, FromCapture, FromLevels}
 use Rattle.pcs_drive.specs.declared.outcome.Outcome.{Outcome}
-use Rattle.pcs_drive.specs.declared.outcome.Outcome.TheVariants.{Done, ReadFault, WriteFault, NoMemory, BadLine, BadHeader, TooTight, Cut, NotAligned, TooLong}
+use Rattle.pcs_drive.specs.declared.outcome.Outcome.TheVariants.{Done, ReadFault, WriteFault, NoMemory, BadLine, TooTight, TooLong}
 use Rattle.pcs_drive.proofs.Completing.{front, all, converted, captured}
 use Rattle.pcs_drive.proofs.HeadersStay.{header-stays, levels-stay}
 use Rattle.pcs_late.specs.Kr.{kr_text}
@@ -53,7 +53,7 @@ use Rattle.pcs_top.specs.declared.status.Status.TheVariants as answer
 use Rattle.pcs_top.proofs.Encoding.{columns-append, one-line}
 use Rattle.std.proofs.lemmas.Bool.{cases_lt}
 use Rattle.pcs_drive.specs.Deciding.{IsSettled, Given, Decides}
-use Rattle.pcs_drive.proofs.Deciding.{settled, Stopped, one-stop, stopped-done, stopped-bad, stopped-long, stops, longer, lines-decide, files-decide}
+use Rattle.pcs_drive.proofs.Deciding.{settled, Stopped, one-stop, stopped-done, stopped-bad, stopped-long, stops, longer, reach, reach-front, lines-decide, files-decide}
 use Rattle.pcs_top.specs.Laws.{IsSettled as IsSettledStatus, EncodeDecides, CommandsDecide}
 
 -- no column of an input with legal gaps brings the debt above its limit
@@ -86,54 +86,52 @@ module _ (options : EncodeOptions) (input : List ℕ) where
     pub line : FrameLine
     pub rest : List ℕ
     pub own : List Column
-    pub begins : Begins frame_line_at input (lines ++ line ∷ []) rest
+    pub begins : Begins frame_line_at (reach input) (lines ++ line ∷ []) rest
     pub tight : IsTooTight options.period (columns_of_lines lines) own (columns_of_line line)
     pub is : outcome ≡ TooTight (length lines + 1)
 
-  ended : (seen : Seen) (outcome : Outcome) → Given seen input → length input ≤ 2 ^ 40 → Encoded options seen outcome → IsSettled outcome
+  ended : (seen : Seen) (outcome : Outcome) → Given seen input → Encoded options seen outcome → IsSettled outcome
       → Legal outcome ⊎ Tight outcome
-  ended seen Done g short e s = inl (record {
+  ended seen Done g e s = inl (record {
     lines = e.1;
     legal = e.5;
-    stopped = stopped-done frame_line_at frame_grammar input e.0 e.1 (all seen input g.rest e.0 g.before g.after e.2) e.4 e.3;
+    stopped = stopped-done frame_line_at frame_grammar input e.0 e.1 (all seen input e.0 g e.2) e.4 e.3;
   })
-  ended seen ReadFault g short e s = absurd (s.reads refl)
-  ended seen WriteFault g short e s = absurd (s.writes refl)
-  ended seen NoMemory g short e s = absurd e
-  ended seen (BadLine number kind) g short e s = inl (record {
+  ended seen ReadFault g e s = absurd (s.reads refl)
+  ended seen WriteFault g e s = absurd (s.writes refl)
+  ended seen (BadLine number kind) g e s = inl (record {
     lines = e.1;
     legal = e.4.legal;
     stopped =
         subst (λ n. Stopped frame_line_at frame_grammar input e.1 (BadLine n kind)) (sym e.2)
         (stopped-bad frame_line_at frame_grammar seen input e.0 e.1 kind g e.3);
   })
-  ended seen (BadHeader bad) g short e s = absurd e
-  ended seen (TooTight frame) g short e s =
-      let same = front seen.left_before seen.left_after input g.rest e.0 g.before g.after e.6 in
+  ended seen (TooTight frame) g e s =
+      let more = take (2 ^ 40 - length e.0) g.rest in
+      let same = reach-front input e.0 g.rest (front seen input e.0 g e.6) e.7 in
       inr (record {
         lines = e.1;
         line = e.2;
-        rest = e.3 ++ g.rest;
+        rest = e.3 ++ more;
         own = e.4;
         begins =
-            subst (λ os. Begins frame_line_at os (e.1 ++ e.2 ∷ []) (e.3 ++ g.rest)) (sym same)
-            (begins-more frame_line_at e.0 (e.1 ++ e.2 ∷ []) e.3 g.rest frame_grammar e.7);
-        tight = e.9;
+            subst (λ os. Begins frame_line_at os (e.1 ++ e.2 ∷ []) (e.3 ++ more)) (sym same)
+            (begins-more frame_line_at e.0 (e.1 ++ e.2 ∷ []) e.3 more frame_grammar e.8);
+        tight = e.10;
         is = ap (λ n. TooTight n) e.5;
       })
-  ended seen (Cut over) g short e s = absurd e
-  ended seen NotAligned g short e s = absurd e
-  ended seen TooLong g short e s = inl (record { lines = e.1; legal = e.5.legal; stopped = stopped-long frame_line_at frame_grammar seen input e.0 e.1 g short e.2 e.4 e.3 })
+  ended seen TooLong g e s = inl (record { lines = e.1; legal = e.5.legal; stopped = stopped-long frame_line_at frame_grammar seen input e.0 e.1 g e.2 e.4 e.3 })
+  ended seen outcome g e s = absurd e
 
   not-both : (first second : Outcome) → Legal first → Tight second → ⊥
   not-both first second l t =
       let s = l.stopped in
-      let more = stops frame_line_at frame_grammar input l.lines (t.lines ++ t.line ∷ []) s.rest t.rest s.begins s.stop t.begins in
+      let more = stops frame_line_at frame_grammar (reach input) l.lines (t.lines ++ t.line ∷ []) s.rest t.rest s.begins s.stop t.begins in
       none-over options t.lines t.line t.own more.0 (subst (λ ls. HasLegalGaps options.period (columns_of_lines ls)) more.1 l.legal) t.tight
 
   no-earlier : (first second : Outcome) (a : Tight first) (b : Tight second) → length a.lines < length b.lines → ⊥
   no-earlier first second a b low =
-      let more = longer frame_line_at frame_grammar input b.lines (b.line ∷ []) (a.lines ++ a.line ∷ []) b.rest a.rest b.begins a.begins (omega (arith, low, length-append a.lines (a.line ∷ []))) in
+      let more = longer frame_line_at frame_grammar (reach input) b.lines (b.line ∷ []) (a.lines ++ a.line ∷ []) b.rest a.rest b.begins a.begins (omega (arith, low, length-append a.lines (a.line ∷ []))) in
       let legal = legal_gaps-front options.period (columns_of_lines b.lines) b.own b.tight.legal in
       none-over options a.lines a.line a.own more.0 (subst (λ ls. HasLegalGaps options.period (columns_of_lines ls)) more.1 legal) a.tight
 
@@ -153,18 +151,16 @@ module _ (options : EncodeOptions) (input : List ℕ) where
   one-of first second (inr a) (inr b) = one-tight first second a b
 
 pub encode-decides : EncodeDecides
-encode-decides options input short one other first second g h a b s t =
-    one-of options input first second (ended options input one first g short a s) (ended options input other second h short b t)
+encode-decides options input one other first second g h a b s t =
+    one-of options input first second (ended options input one first g a s) (ended options input other second h b t)
 
-encoded : (options : EncodeOptions) (seen : Seen) (octets rest : List ℕ) (lines : List FrameLine) (outcome : Outcome)
-    → seen.left_before ≡ Some octets → seen.left_after ≡ Some rest
+encoded : (options : EncodeOptions) (seen : Seen) (octets : List ℕ) (lines : List FrameLine) (outcome : Outcome) → Given seen octets
     → AreLines frame_line_at octets lines → HasLegalGaps options.period (columns_of_lines lines) → length octets < 2 ^ 40
     → ¬ ReadFailed seen → ¬ WriteFailed seen
     → Encoded options seen outcome → outcome ≡ Done
-encoded options seen octets rest lines outcome b a whole legal short reads writes c =
-    let g : Given seen octets = record { before = b; rest = rest; after = a } in
+encoded options seen octets lines outcome g whole legal short reads writes c =
     let is = settled (Encoded options seen) seen outcome c (λ d. d.2) (λ d. d.2) (λ e. subst (Encoded options seen) e c) reads writes in
-    one-of options octets outcome Done (ended options octets seen outcome g (omega (arith, short)) c is)
+    one-of options octets outcome Done (ended options octets seen outcome g c is)
     (inl (record { lines = lines; legal = legal; stopped = stopped-done frame_line_at frame_grammar octets octets lines refl whole short }))
 
 -- the line on the notes changes no status where no write failed
@@ -191,73 +187,66 @@ by-lines Table seen status (outcome, is, inl c) done = by-outcome status outcome
 by-lines Table seen status (outcome, is, inr none) done = by-outcome status outcome is (inr none.0)
 
 -- and of one on captures
-by-capture : (text : CaptureText) (seen : Seen) (octets rest : List ℕ) (status : Status) → seen.left_before ≡ Some octets → seen.left_after ≡ Some rest
+by-capture : (text : CaptureText) (seen : Seen) (octets : List ℕ) (status : Status) → Given seen octets
     → IsWholeCapture text octets → length octets < 2 ^ 40 → ¬ ReadFailed seen → ¬ WriteFailed seen → ByOutcome (FromCapture text seen) status
     → (status ≡ answer.Done) ⊎ (status ≡ answer.NoMemory)
-by-capture text seen octets rest status b a within short reads writes c =
-    by-outcome status c.0 c.1 (captured header_at header-stays text seen octets rest within.0 within.1 b a within.2 within.3 c.0 short reads writes c.2)
+by-capture text seen octets status g within short reads writes c =
+    by-outcome status c.0 c.1 (captured header_at header-stays text seen octets within.0 within.1 g within.2 within.3 c.0 short reads writes c.2)
 
 -- and of one on files of levels
-by-levels : (phase : ℕ) (seen : Seen) (octets rest : List ℕ) (status : Status) → seen.left_before ≡ Some octets → seen.left_after ≡ Some rest
+by-levels : (phase : ℕ) (seen : Seen) (octets : List ℕ) (status : Status) → Given seen octets
     → IsWholeLevels octets → length octets < 2 ^ 40 → ¬ ReadFailed seen → ¬ WriteFailed seen → ByOutcome (FromLevels (demultiplexed phase) seen) status
     → (status ≡ answer.Done) ⊎ (status ≡ answer.NoMemory)
-by-levels phase seen octets rest status b a within short reads writes c =
+by-levels phase seen octets status g within short reads writes c =
     by-outcome status c.0 c.1
-    (captured levels_header_at levels-stay (demultiplexed phase) seen octets rest within.0 within.1 b a within.2 refl c.0 short reads writes c.2)
+    (captured levels_header_at levels-stay (demultiplexed phase) seen octets within.0 within.1 g within.2 refl c.0 short reads writes c.2)
 
 -- a trial reads nothing
 tried : (options : TrialOptions) (seen : Seen) (outcome : Outcome) → ¬ WriteFailed seen → Tried options seen outcome → (outcome ≡ Done) ⊎ (outcome ≡ NoMemory)
 tried options seen Done writes c = inl refl
-tried options seen ReadFault writes c = absurd c
 tried options seen WriteFault writes c = absurd (writes c.1)
 tried options seen NoMemory writes c = inr refl
-tried options seen (BadLine number kind) writes c = absurd c
-tried options seen (BadHeader bad) writes c = absurd c
-tried options seen (TooTight frame) writes c = absurd c
-tried options seen (Cut over) writes c = absurd c
-tried options seen NotAligned writes c = absurd c
-tried options seen TooLong writes c = absurd c
+tried options seen outcome writes c = absurd c
 
-answers : (watchers : List Watched) (words : Result Command Refusal) (seen : Seen) (heard : Heard) (status : Status) (octets rest : List ℕ) → seen.left_before ≡ Some octets
-    → seen.left_after ≡ Some rest
+answers : (watchers : List Watched) (words : Result Command Refusal) (seen : Seen) (heard : Heard) (status : Status) (octets : List ℕ) → Given seen octets
     → InGrammar watchers words octets → length octets < 2 ^ 40 → NothingFailed seen heard → Answers watchers words seen status
     → (status ≡ answer.Done) ⊎ (status ≡ answer.NoMemory)
-answers watchers (Err refusal.Memory) seen heard status octets rest b a within short nothing c = absurd within
-answers watchers (Err (refusal.Usage cause)) seen heard status octets rest b a within short nothing c = absurd within
-answers watchers (Ok command.Blocks) seen heard status octets rest b a within short nothing c =
-    by-lines (Converted frame_line_at block_text) seen status c (λ outcome d. converted frame_line_at frame_grammar block_text seen octets rest within.0 outcome b a within.1 short nothing.reads nothing.writes d)
-answers watchers (Ok command.Unblock) seen heard status octets rest b a within short nothing c =
-    by-lines (Converted block_line_at unblock_text) seen status c (λ outcome d. converted block_line_at block_grammar unblock_text seen octets rest within.0 outcome b a within.1 short nothing.reads nothing.writes d)
-answers watchers (Ok (command.Encode options)) seen heard status octets rest b a within short nothing c =
-    by-lines (Encoded options) seen status c (λ outcome d. encoded options seen octets rest within.0 outcome b a within.1 within.2 short nothing.reads nothing.writes d)
-answers watchers (Ok (command.Decode options)) seen heard status octets rest b a within short nothing c =
-    by-capture (decoded options.skew) seen octets rest status b a within short nothing.reads nothing.writes c
-answers watchers (Ok (command.Migrate options)) seen heard status octets rest b a within short nothing c =
-    by-capture (migrated options.skew) seen octets rest status b a within short nothing.reads nothing.writes c
-answers watchers (Ok (command.Report options)) seen heard status octets rest b a within short nothing c =
-    by-capture (reported watchers options.skew) seen octets rest status b a within short nothing.reads nothing.writes c
-answers watchers (Ok (command.Columns options)) seen heard status octets rest b a within short nothing c =
-    by-capture (columned options.skew) seen octets rest status b a within short nothing.reads nothing.writes c
-answers watchers (Ok (command.Impair items)) seen heard status octets rest b a within short nothing c =
-    by-capture (impairing items) seen octets rest status b a within short nothing.reads nothing.writes c
-answers watchers (Ok (command.Trial options)) seen heard status octets rest b a within short nothing c =
+answers watchers (Err refusal.Memory) seen heard status octets g within short nothing c = absurd within
+answers watchers (Err (refusal.Usage cause)) seen heard status octets g within short nothing c = absurd within
+answers watchers (Ok command.Blocks) seen heard status octets g within short nothing c =
+    by-lines (Converted frame_line_at block_text) seen status c (λ outcome d. converted frame_line_at frame_grammar block_text seen octets within.0 outcome g within.1 short nothing.reads nothing.writes d)
+answers watchers (Ok command.Unblock) seen heard status octets g within short nothing c =
+    by-lines (Converted block_line_at unblock_text) seen status c (λ outcome d. converted block_line_at block_grammar unblock_text seen octets within.0 outcome g within.1 short nothing.reads nothing.writes d)
+answers watchers (Ok (command.Encode options)) seen heard status octets g within short nothing c =
+    by-lines (Encoded options) seen status c (λ outcome d. encoded options seen octets within.0 outcome g within.1 within.2 short nothing.reads nothing.writes d)
+answers watchers (Ok (command.Decode options)) seen heard status octets g within short nothing c =
+    by-capture (decoded options.skew) seen octets status g within short nothing.reads nothing.writes c
+answers watchers (Ok (command.Migrate options)) seen heard status octets g within short nothing c =
+    by-capture (migrated options.skew) seen octets status g within short nothing.reads nothing.writes c
+answers watchers (Ok (command.Report options)) seen heard status octets g within short nothing c =
+    by-capture (reported watchers options.skew) seen octets status g within short nothing.reads nothing.writes c
+answers watchers (Ok (command.Columns options)) seen heard status octets g within short nothing c =
+    by-capture (columned options.skew) seen octets status g within short nothing.reads nothing.writes c
+answers watchers (Ok (command.Impair items)) seen heard status octets g within short nothing c =
+    by-capture (impairing items) seen octets status g within short nothing.reads nothing.writes c
+answers watchers (Ok (command.Trial options)) seen heard status octets g within short nothing c =
     by-outcome status c.0 c.1 (tried options seen c.0 nothing.writes c.2)
-answers watchers (Ok (command.Mux options)) seen heard status octets rest b a within short nothing c =
-    by-capture (multiplexed options.precode) seen octets rest status b a within short nothing.reads nothing.writes c
-answers watchers (Ok (command.Demux options)) seen heard status octets rest b a within short nothing c =
-    by-levels options.phase seen octets rest status b a within short nothing.reads nothing.writes c
-answers watchers (Ok command.Kr) seen heard status octets rest b a within short nothing c =
-    by-lines (Converted symbol_line_at kr_text) seen status c (λ outcome d. converted symbol_line_at symbol_grammar kr_text seen octets rest within.0 outcome b a within.1 short nothing.reads nothing.writes d)
-answers watchers (Ok (command.Pcap options)) seen heard status octets rest b a within short nothing c =
-    by-pcap status c.0 c.1 (pcap-complete seen octets rest b a short nothing.reads nothing.writes options.gap options.short options.write c.0 within c.2)
+answers watchers (Ok (command.Mux options)) seen heard status octets g within short nothing c =
+    by-capture (multiplexed options.precode) seen octets status g within short nothing.reads nothing.writes c
+answers watchers (Ok (command.Demux options)) seen heard status octets g within short nothing c =
+    by-levels options.phase seen octets status g within short nothing.reads nothing.writes c
+answers watchers (Ok command.Kr) seen heard status octets g within short nothing c =
+    by-lines (Converted symbol_line_at kr_text) seen status c (λ outcome d. converted symbol_line_at symbol_grammar kr_text seen octets within.0 outcome g within.1 short nothing.reads nothing.writes d)
+answers watchers (Ok (command.Pcap options)) seen heard status octets g within short nothing c =
+    by-pcap status c.0 c.1 (pcap-complete seen octets g short nothing.reads nothing.writes options.gap options.short options.write c.0 within c.2)
 
 pub complete : (watchers : List Watched) (words : Result Command Refusal) (seen : Seen) (heard : Heard) (status : Status)
     → Runs watchers words seen heard status → IsComplete watchers words seen heard status
-complete watchers words seen heard status runs octets rest b a within short nothing =
+complete watchers words seen heard status runs octets g within short nothing =
     rw (noted runs.0 status heard nothing.notes runs.2) (performs runs.1)
   where
     performs : Performs watchers words seen runs.0 → (runs.0 ≡ answer.Done) ⊎ (runs.0 ≡ answer.NoMemory)
-    performs (inl c) = answers watchers words seen heard runs.0 octets rest b a within short nothing c
+    performs (inl c) = answers watchers words seen heard runs.0 octets g within short nothing c
     performs (inr none) = inr none.0
 
 -- ---- of every command
@@ -266,15 +255,9 @@ tried-decide options input one other first second g h a b s t = done one first a
   where
     done : (seen : Seen) (outcome : Outcome) → Tried options seen outcome → IsSettled outcome → outcome ≡ Done
     done seen Done c s = refl
-    done seen ReadFault c s = absurd c
     done seen WriteFault c s = absurd (s.writes refl)
     done seen NoMemory c s = absurd (s.memory refl)
-    done seen (BadLine number kind) c s = absurd c
-    done seen (BadHeader bad) c s = absurd c
-    done seen (TooTight frame) c s = absurd c
-    done seen (Cut over) c s = absurd c
-    done seen NotAligned c s = absurd c
-    done seen TooLong c s = absurd c
+    done seen outcome c s = absurd c
 
 by-status : (outcome : Outcome) (status : Status) → status ≡ status_of outcome → IsSettledStatus status → IsSettled outcome
 by-status outcome status is s = record { reads = λ e. s.reads (is ∙ ap status_of e); writes = λ e. s.writes (is ∙ ap status_of e); memory = λ e. s.memory (is ∙ ap status_of e) }
@@ -287,7 +270,7 @@ with-memory Table input decide one other first second g h (inl a) (inl b) s t = 
 with-memory Table input decide one other first second g h (inr none) b s t = absurd (s.memory none.0)
 with-memory Table input decide one other first second g h (inl a) (inr none) s t = absurd (t.memory none.0)
 
-module _ (watchers : List Watched) (input : List ℕ) (one other : Seen) (first second : Status) (short : length input ≤ 2 ^ 40)
+module _ (watchers : List Watched) (input : List ℕ) (one other : Seen) (first second : Status)
     (g : Given one input) (h : Given other input) (s : IsSettledStatus first) (t : IsSettledStatus second) where
   one-outcome : (Table : Seen → Outcome → Type 0) → Decides input Table → ByOutcome (Table one) first → ByOutcome (Table other) second → first ≡ second
   one-outcome Table decide (x, is, a) (y, so, b) = is ∙ ap status_of (decide one other x y g h a b (by-status x first is s) (by-status y second so t)) ∙ sym so
@@ -302,10 +285,10 @@ module _ (watchers : List Watched) (input : List ℕ) (one other : Seen) (first 
   settled-answers : (words : Result Command Refusal) → Answers watchers words one first → Answers watchers words other second → first ≡ second
   settled-answers (Err refusal.Memory) a b = a.0 ∙ sym b.0
   settled-answers (Err (refusal.Usage cause)) a b = a.0 ∙ sym b.0
-  settled-answers (Ok command.Blocks) a b = one-of-lines _ (lines-decide frame_line_at frame_grammar block_text input short) a b
-  settled-answers (Ok command.Unblock) a b = one-of-lines _ (lines-decide block_line_at block_grammar unblock_text input short) a b
-  settled-answers (Ok command.Kr) a b = one-of-lines _ (lines-decide symbol_line_at symbol_grammar kr_text input short) a b
-  settled-answers (Ok (command.Encode options)) a b = one-of-lines (Encoded options) (encode-decides options input short) a b
+  settled-answers (Ok command.Blocks) a b = one-of-lines _ (lines-decide frame_line_at frame_grammar block_text input) a b
+  settled-answers (Ok command.Unblock) a b = one-of-lines _ (lines-decide block_line_at block_grammar unblock_text input) a b
+  settled-answers (Ok command.Kr) a b = one-of-lines _ (lines-decide symbol_line_at symbol_grammar kr_text input) a b
+  settled-answers (Ok (command.Encode options)) a b = one-of-lines (Encoded options) (encode-decides options input) a b
   settled-answers (Ok (command.Decode options)) a b = one-of-captures (decoded options.skew) a b
   settled-answers (Ok (command.Report options)) a b = one-of-captures (reported watchers options.skew) a b
   settled-answers (Ok (command.Columns options)) a b = one-of-captures (columned options.skew) a b
@@ -315,7 +298,7 @@ module _ (watchers : List Watched) (input : List ℕ) (one other : Seen) (first 
   settled-answers (Ok (command.Mux options)) a b = one-of-captures (multiplexed options.precode) a b
   settled-answers (Ok (command.Demux options)) a b = one-outcome _ (files-decide levels_header_at levels-stay (demultiplexed options.phase) input) a b
   settled-answers (Ok (command.Pcap options)) (x, is, a) (y, so, b) =
-      is ∙ ap status_of_pcap (pcap-decides options.gap options.short options.write input short one other x y g h a b (by-pcap-status x first is s) (by-pcap-status y second so t)) ∙ sym so
+      is ∙ ap status_of_pcap (pcap-decides options.gap options.short options.write input one other x y g h a b (by-pcap-status x first is s) (by-pcap-status y second so t)) ∙ sym so
 
 pub commands-decide : CommandsDecide
-commands-decide watchers words input one other first second short g h a b s t = settled-answers watchers input one other first second short g h s t words a b
+commands-decide watchers words input one other first second g h a b s t = settled-answers watchers input one other first second g h s t words a b

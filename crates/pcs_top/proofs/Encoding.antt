@@ -5,14 +5,14 @@ use Rattle.mac_columns.specs.declared.column.Column.{Column}
 use Rattle.rate_match.specs.Kept.{HasLegalGaps}
 use Rattle.rate_match.proofs.Keeping.{legal_gaps-nil}
 use Rattle.pcs_send.specs.Holding.{State}
-use Rattle.pcs_io.specs.Octets.{AppendsFront, TakesWhereTold}
+use Rattle.pcs_io.specs.Octets.{Told, AppendsFront, TakesWhereTold}
 use Rattle.pcs_io.specs.FrameLines.{FrameLine, frame_line_at}
 use Rattle.pcs_io.specs.Histories.{ReaderState, History, Stands, Nexts, told, opened}
 use Rattle.pcs_io.specs.declared.fault.InFault.{InFault}
 use Rattle.pcs_io.specs.declared.fault.InFault.TheVariants as in_fault
 use Rattle.pcs_io.specs.declared.source.Failed.{Failed}
 use Rattle.pcs_io.specs.Grammars.{Begins, IsNear}
-use Rattle.pcs_io.proofs.Told.{consumes-none, consumes-append, takes-after, takes-consumed}
+use Rattle.pcs_io.proofs.Told.{gives-none, gives-append, takes-after, takes-consumed}
 use Rattle.pcs_io.specs.declared.fault.Kind.{Kind}
 use Rattle.pcs_drive.specs.LineCommand.{IsRefused}
 use Rattle.pcs_drive.specs.Seen.{Seen, TookAll, Written, ReadFailed, WriteFailed}
@@ -27,7 +27,7 @@ use Rattle.pcs_words.specs.declared.command.EncodeOptions.{EncodeOptions}
 use Rattle.pcs_top.specs.declared.encode.Halt.{Halt}
 use Rattle.pcs_top.specs.declared.encode.Halt.TheVariants as halt
 use Rattle.pcs_drive.specs.declared.outcome.Outcome.{Outcome}
-use Rattle.pcs_drive.specs.declared.outcome.Outcome.TheVariants.{Done, ReadFault, WriteFault, NoMemory, BadLine, BadHeader, TooTight, Cut, NotAligned, TooLong}
+use Rattle.pcs_drive.specs.declared.outcome.Outcome.TheVariants.{Done, ReadFault, WriteFault, BadLine, TooTight, TooLong}
 use Rattle.pcs_drive.proofs.WritingLemmas.{wrote-all, same-told}
 use Rattle.pcs_io.proofs.Progress.{fresh-near}
 use Rattle.pcs_drive.proofs.Copying.{Copied, opened-near, reading, all-written, took-all, took-more, refused, behind-fault, tells}
@@ -83,7 +83,7 @@ module _ (o : EncodeOptions) where
       by seen.held_before mid end seen.held_after (subst (Wrote seen.held_before mid (begun_octets o [])) none put.sent.wrote) longer told later
     where
       by : (before mid end after : Option (List ℕ)) → Wrote before mid (begun_octets o []) [] → IsLonger mid end → Wrote before end text more → IsLonger end after
-          → IfSome before (λ b. IfSome after (λ a. length a < length b + length (begun_octets o []) → seen.left_after ≡ seen.left_before))
+          → IfSome before (λ b. IfSome after (λ a. length a < length b + length (begun_octets o []) → seen.told_after ≡ seen.told_before))
       by None mid end after w l t m = tt
       by (Some b) None end after w l t m = absurd w.appended
       by (Some b) (Some h) None after w l t m = absurd t.appended
@@ -104,10 +104,10 @@ module _ (o : EncodeOptions) where
       (put-again sender cs start start' held held' pending pending' put) wrote
 
   module _ {P : Type 0} where
-    abbrev pub SoFar : State → ReaderState P → Option (List ℕ) → Option (List ℕ) → Option (List ℕ) → Option (List ℕ) → List ℕ → Type 0
+    abbrev pub SoFar : State → ReaderState P → Told → Told → Option (List ℕ) → Option (List ℕ) → List ℕ → Type 0
     SoFar sender = Copied {X = FrameLine} {P = P} frame_line_at begun_text (HasLines sender)
 
-    pub sent-start : (sender : State) (lines : ReaderState P) (before start held : Option (List ℕ)) (pending : List ℕ)
+    pub sent-start : (sender : State) (lines : ReaderState P) (before : Told) (start held : Option (List ℕ)) (pending : List ℕ)
         → Stands frame_line_at lines (opened (2 ^ 40))
         → HasPut sender o [] start held pending → SoFar sender lines before before start held pending
     sent-start sender lines before start held pending stands put = record {
@@ -115,12 +115,12 @@ module _ (o : EncodeOptions) where
       answered = [];
       stands = stands;
       near = opened-near frame_line_at lines stands;
-      took = consumes-none before;
+      took = gives-none before;
       wrote = subst (λ xs. Wrote start held (begun_octets o xs) pending) (sym no-lines) put.sent.wrote;
       keeps = has-lines sender [] [] start held pending put no-lines;
     }
 
-    module _ (sender : State) (before mid start held : Option (List ℕ)) (pending : List ℕ) (old : ReaderState P) (c : SoFar sender old before mid start held pending) where
+    module _ (sender : State) (before mid : Told) (start held : Option (List ℕ)) (pending : List ℕ) (old : ReaderState P) (c : SoFar sender old before mid start held pending) where
       abbrev columns : List Column
       columns = columns_of_lines c.answered
 
@@ -128,7 +128,7 @@ module _ (o : EncodeOptions) where
       so-far = c.keeps start held pending c.wrote
 
     -- one line more
-    pub sent-line : (sender later : State) (before mid now start held held_now : Option (List ℕ)) (pending after : List ℕ)
+    pub sent-line : (sender later : State) (before mid now : Told) (start held held_now : Option (List ℕ)) (pending after : List ℕ)
         (old new : ReaderState P) (ended : Bool) (line : FrameLine)
         → (c : SoFar sender old before mid start held pending) → Nexts frame_line_at old new mid now ended (Ok (Some line))
         → ((cs : List Column) → HasPut sender o cs start held pending → HasPut later o (cs ++ columns_of_line line) start held_now after)
@@ -141,26 +141,26 @@ module _ (o : EncodeOptions) where
           answered = c.answered ++ line ∷ [];
           stands = t.2;
           near = fresh-near frame_line_at new.buffer.unused n.within;
-          took = consumes-append before mid now c.octets t.0 c.took t.1.0;
+          took = gives-append before mid now c.octets t.0 c.took t.1.0;
           wrote = subst (λ xs. Wrote start held_now (begun_octets o xs) after) (sym (one-line c.answered line)) put.sent.wrote;
           keeps = has-lines later (c.answered ++ line ∷ []) (columns_of_lines c.answered ++ columns_of_line line) start held_now after put (one-line c.answered line);
         }
 
     -- the ends
-    module _ (sender : State) (seen : Seen) (mid held : Option (List ℕ)) (pending : List ℕ) (old new : ReaderState P)
-        (c : SoFar sender old seen.left_before mid seen.held_before held pending) where
+    module _ (sender : State) (seen : Seen) (mid : Told) (held : Option (List ℕ)) (pending : List ℕ) (old new : ReaderState P)
+        (c : SoFar sender old seen.told_before mid seen.held_before held pending) where
       put-so-far : HasPut sender o (columns_of_lines c.answered) seen.held_before held pending
-      put-so-far = so-far sender seen.left_before mid seen.held_before held pending old c
+      put-so-far = so-far sender seen.told_before mid seen.held_before held pending old c
 
       begun : Stays held pending seen.held_after [] → HasBegun o seen (columns_of_lines c.answered)
       begun flushed = record { legal = put-so-far.legal; written = written seen held (begun_text c.answered) pending c.wrote flushed }
 
       -- the end of the input between two lines
-      pub encoded-done : (held_end : Option (List ℕ)) (pending_end : List ℕ) → Nexts frame_line_at old new mid seen.left_after seen.ended (Ok None)
+      pub encoded-done : (held_end : Option (List ℕ)) (pending_end : List ℕ) → Nexts frame_line_at old new mid seen.told_after seen.ended (Ok None)
           → ((cs : List Column) → HasPut sender o cs seen.held_before held pending → Wrote seen.held_before held_end (sent_octets o cs) pending_end)
           → Stays held_end pending_end seen.held_after [] → Encoded o seen Done
       encoded-done held_end pending_end n finish flushed =
-          let t = tells frame_line_at begun_text (HasLines sender) old new seen.left_before mid seen.left_after seen.held_before held pending seen.ended (Ok None) c n in (
+          let t = tells frame_line_at begun_text (HasLines sender) old new seen.told_before mid seen.told_after seen.held_before held pending seen.ended (Ok None) c n in (
             c.octets ++ t.0,
             c.answered,
             took-all seen mid c.octets t.0 c.took t.1.0,
@@ -171,21 +171,21 @@ module _ (o : EncodeOptions) where
           )
 
       -- a fault of the reader
-      pub encoded-fault : (fault : InFault) → Nexts frame_line_at old new mid seen.left_after seen.ended (Err fault)
+      pub encoded-fault : (fault : InFault) → Nexts frame_line_at old new mid seen.told_after seen.ended (Err fault)
           → (fault ≡ in_fault.Read → ReadFailed seen)
           → Stays held pending seen.held_after [] → Encoded o seen (outcome_of fault)
       encoded-fault in_fault.Read n rose flushed =
-          let t = tells frame_line_at begun_text (HasLines sender) old new seen.left_before mid seen.left_after seen.held_before held pending seen.ended (Err in_fault.Read) c n in
-          (c.octets ++ t.0, c.answered, rose refl, takes-after seen.left_before mid seen.left_after c.octets t.0 c.took t.1.0, t.1.1, begun flushed)
+          let t = tells frame_line_at begun_text (HasLines sender) old new seen.told_before mid seen.told_after seen.held_before held pending seen.ended (Err in_fault.Read) c n in
+          (c.octets ++ t.0, c.answered, rose refl, takes-after seen.told_before mid seen.told_after c.octets t.0 c.took t.1.0, t.2.within, t.1.1, begun flushed)
       encoded-fault (in_fault.BadLine number kind) n rose flushed =
-          let t = tells frame_line_at begun_text (HasLines sender) old new seen.left_before mid seen.left_after seen.held_before held pending seen.ended (Err (in_fault.BadLine number kind)) c n in
-          (c.octets ++ t.0, c.answered, t.1.0, refused frame_line_at seen mid c.octets t.0 c.answered kind c.took t.1.1, begun flushed)
+          let t = tells frame_line_at begun_text (HasLines sender) old new seen.told_before mid seen.told_after seen.held_before held pending seen.ended (Err (in_fault.BadLine number kind)) c n in
+          (c.octets ++ t.0, c.answered, t.1.0, refused frame_line_at seen mid c.octets t.0 c.answered kind c.took t.2.within t.1.1, begun flushed)
       encoded-fault in_fault.TooLong n rose flushed =
-          let t = tells frame_line_at begun_text (HasLines sender) old new seen.left_before mid seen.left_after seen.held_before held pending seen.ended (Err in_fault.TooLong) c n in
+          let t = tells frame_line_at begun_text (HasLines sender) old new seen.told_before mid seen.told_after seen.held_before held pending seen.ended (Err in_fault.TooLong) c n in
           (c.octets ++ t.0, c.answered, took-more seen mid c.octets t.0 c.took t.1.0, t.1.1, t.1.2, begun flushed)
 
       -- a column of the line brings the debt above its limit
-      module _ (line : FrameLine) (n : Nexts frame_line_at old new mid seen.left_after seen.ended (Ok (Some line))) where
+      module _ (line : FrameLine) (n : Nexts frame_line_at old new mid seen.told_after seen.ended (Ok (Some line))) where
         abbrev own_columns : List Column
         own_columns = columns_of_line line
 
@@ -194,7 +194,7 @@ module _ (o : EncodeOptions) where
             → ((cs : List Column) → HasPut sender o cs seen.held_before held pending → LineHalts o cs own_columns seen.held_before held_end pending_end why)
             → Stays held_end pending_end seen.held_after [] → Encoded o seen (TooTight number)
         encoded-tight number held_end pending_end why is counts halts flushed =
-            let t = tells frame_line_at begun_text (HasLines sender) old new seen.left_before mid seen.left_after seen.held_before held pending seen.ended (Ok (Some line)) c n in
+            let t = tells frame_line_at begun_text (HasLines sender) old new seen.told_before mid seen.told_after seen.held_before held pending seen.ended (Ok (Some line)) c n in
             let halted = subst (LineHalts o (columns_of_lines c.answered) own_columns seen.held_before held_end pending_end) is (halts (columns_of_lines c.answered) put-so-far) in (
               c.octets ++ t.0,
               c.answered,
@@ -203,6 +203,7 @@ module _ (o : EncodeOptions) where
               halted.0,
               counts (told (reading c.octets c.answered) t.0 (Ok (Some line))) t.2 ∙ length-append c.answered (line ∷ []),
               took-more seen mid c.octets t.0 c.took t.1.0,
+              t.2.within,
               t.2.unused,
               n.within,
               halted.1,
@@ -214,7 +215,7 @@ module _ (o : EncodeOptions) where
             → HasLegalGaps o.period (columns_of_lines c.answered ++ own)
             → AppendsFront seen.held_before seen.held_after (begun_octets o (columns_of_lines c.answered ++ own)) → Encoded o seen WriteFault
         frame-failed rose waits own left parts legal front =
-            let t = tells frame_line_at begun_text (HasLines sender) old new seen.left_before mid seen.left_after seen.held_before held pending seen.ended (Ok (Some line)) c n in (
+            let t = tells frame_line_at begun_text (HasLines sender) old new seen.told_before mid seen.told_after seen.held_before held pending seen.ended (Ok (Some line)) c n in (
               c.octets ++ t.0,
               c.answered ++ line ∷ [],
               rose,
@@ -222,6 +223,7 @@ module _ (o : EncodeOptions) where
               inl (
                 new.buffer.unused,
                 took-more seen mid c.octets t.0 c.took t.1.0,
+                t.2.within,
                 t.2.unused,
                 fresh-near frame_line_at new.buffer.unused n.within,
                 columns_of_lines c.answered ++ own,
@@ -250,16 +252,16 @@ module _ (o : EncodeOptions) where
             frame-failed rose (waits text halted.2) halted.0 (tight.column ∷ tight.rest) tight.parts tight.legal (failed seen.held_before text halted.2)
 
       -- a write failed behind the lines
-      behind : (octets rest : List ℕ) → WriteFailed seen → HasWaited o seen → TakesWhereTold seen.left_before seen.left_after octets
+      behind : (octets rest : List ℕ) → WriteFailed seen → HasWaited o seen → TakesWhereTold seen.told_before seen.told_after octets → length octets ≤ 2 ^ 40
           → Begins frame_line_at octets c.answered rest → IsNear frame_line_at rest
           → AppendsFront seen.held_before seen.held_after (begun_text c.answered) → Encoded o seen WriteFault
-      behind octets rest rose waits took begins near front =
-          (octets, c.answered, rose, waits, inl (rest, took, begins, near, columns_of_lines c.answered, [], sym (append-nil (columns_of_lines c.answered)), put-so-far.legal, front))
+      behind octets rest rose waits took within begins near front =
+          (octets, c.answered, rose, waits, inl (rest, took, within, begins, near, columns_of_lines c.answered, [], sym (append-nil (columns_of_lines c.answered)), put-so-far.legal, front))
 
-      pub encoded-end-failed : Nexts frame_line_at old new mid seen.left_after seen.ended (Ok None) → WriteFailed seen → HasWaited o seen
+      pub encoded-end-failed : Nexts frame_line_at old new mid seen.told_after seen.ended (Ok None) → WriteFailed seen → HasWaited o seen
           → ((cs : List Column) → HasPut sender o cs seen.held_before held pending → AppendsFront seen.held_before seen.held_after (sent_octets o cs)) → Encoded o seen WriteFault
       encoded-end-failed n rose waits failed =
-          let t = tells frame_line_at begun_text (HasLines sender) old new seen.left_before mid seen.left_after seen.held_before held pending seen.ended (Ok None) c n in (
+          let t = tells frame_line_at begun_text (HasLines sender) old new seen.told_before mid seen.told_after seen.held_before held pending seen.ended (Ok None) c n in (
             c.octets ++ t.0,
             c.answered,
             rose,
@@ -267,17 +269,17 @@ module _ (o : EncodeOptions) where
             inr (took-all seen mid c.octets t.0 c.took t.1.0, t.1.1, t.1.2, put-so-far.legal, failed (columns_of_lines c.answered) put-so-far),
           )
 
-      pub encoded-fault-failed : (fault : InFault) → Nexts frame_line_at old new mid seen.left_after seen.ended (Err fault) → WriteFailed seen → HasWaited o seen
+      pub encoded-fault-failed : (fault : InFault) → Nexts frame_line_at old new mid seen.told_after seen.ended (Err fault) → WriteFailed seen → HasWaited o seen
           → BreaksOffBefore held pending seen.held_after → Encoded o seen WriteFault
       encoded-fault-failed fault n rose waits failed =
-          let t = tells frame_line_at begun_text (HasLines sender) old new seen.left_before mid seen.left_after seen.held_before held pending seen.ended (Err fault) c n in
-          let after = behind-fault frame_line_at (reading c.octets c.answered) t.0 mid seen.left_after seen.ended fault t.1 in
-          behind (c.octets ++ t.0) after.0 rose waits (takes-after seen.left_before mid seen.left_after c.octets t.0 c.took after.1) after.2 after.3
+          let t = tells frame_line_at begun_text (HasLines sender) old new seen.told_before mid seen.told_after seen.held_before held pending seen.ended (Err fault) c n in
+          let after = behind-fault frame_line_at (reading c.octets c.answered) t.0 mid seen.told_after seen.ended fault t.1 in
+          behind (c.octets ++ t.0) after.0 rose waits (takes-after seen.told_before mid seen.told_after c.octets t.0 c.took after.1) t.2.within after.2 after.3
           (failed seen.held_before (begun_text c.answered) c.wrote)
 
     -- before the next line is read
     pub encoded-failed : (sender : State) (seen : Seen) (held : Option (List ℕ)) (pending : List ℕ) (lines : ReaderState P)
-        → (c : SoFar sender lines seen.left_before seen.left_after seen.held_before held pending) → WriteFailed seen → HasWaited o seen
+        → (c : SoFar sender lines seen.told_before seen.told_after seen.held_before held pending) → WriteFailed seen → HasWaited o seen
         → BreaksOffBefore held pending seen.held_after → Encoded o seen WriteFault
     encoded-failed sender seen held pending lines c rose waits failed = (
       c.octets,
@@ -286,13 +288,14 @@ module _ (o : EncodeOptions) where
       waits,
       inl (
         lines.buffer.unused,
-        takes-consumed seen.left_before seen.left_after c.octets c.took,
+        takes-consumed seen.told_before seen.told_after c.octets c.took,
+        c.stands.within,
         c.stands.unused,
         c.near,
         columns_of_lines c.answered,
         [],
         sym (append-nil (columns_of_lines c.answered)),
-        (so-far sender seen.left_before seen.left_after seen.held_before held pending lines c).legal,
+        (so-far sender seen.told_before seen.told_after seen.held_before held pending lines c).legal,
         failed seen.held_before (begun_text c.answered) c.wrote,
       ),
     )
@@ -319,22 +322,19 @@ module _ (o : EncodeOptions) where
 
     earlier : (outcome : Outcome) → Encoded o seen outcome → Encoded o earlier_seen outcome
     earlier Done e = (e.0, e.1, all-taken e.0 e.2, e.3, e.4, e.5, e.6)
-    earlier ReadFault e = (e.0, e.1, e.2, e.3, e.4, has-begun (columns_of_lines e.1) e.5)
+    earlier ReadFault e = (e.0, e.1, e.2, e.3, e.4, e.5, has-begun (columns_of_lines e.1) e.6)
     earlier WriteFault e = (e.0, e.1, omega (arith, few, e.2), e.3, broke-off e.0 e.1 e.4)
-    earlier NoMemory e = e
     earlier (BadLine number kind) e = (e.0, e.1, e.2, is-refused e.0 e.1 kind e.3, has-begun (columns_of_lines e.1) e.4)
     earlier (TooTight frame) e = e
     earlier TooLong e = (e.0, e.1, e.2, e.3, e.4, has-begun (columns_of_lines e.1) e.5)
-    earlier (BadHeader bad) e = e
-    earlier (Cut rest) e = e
-    earlier NotAligned e = e
+    earlier outcome e = absurd e
 
     pub encodes-earlier : (result : Result Outcome Failed) → Encodes o seen result → Encodes o earlier_seen result
     encodes-earlier (Ok outcome) e = earlier outcome e
     encodes-earlier (Err failure) e = earlier WriteFault e
 
   -- the header or the lead was cut short
-  pub encoded-unbegun : (seen : Seen) → WriteFailed seen → seen.left_after ≡ seen.left_before
+  pub encoded-unbegun : (seen : Seen) → WriteFailed seen → seen.told_after ≡ seen.told_before
       → AppendsFront seen.held_before seen.held_after (begun_octets o []) → Encoded o seen WriteFault
   encoded-unbegun seen rose same front = (
     [],
@@ -343,7 +343,8 @@ module _ (o : EncodeOptions) where
     unread seen.held_before seen.held_after,
     inl (
       [],
-      subst (λ left. TakesWhereTold seen.left_before left []) (sym same) (takes-consumed seen.left_before seen.left_before [] (consumes-none seen.left_before)),
+      subst (λ told. TakesWhereTold seen.told_before told []) (sym same) (takes-consumed seen.told_before seen.told_before [] (gives-none seen.told_before)),
+      omega arith,
       refl,
       fresh-near frame_line_at [] (omega arith),
       [],
@@ -354,7 +355,7 @@ module _ (o : EncodeOptions) where
     ),
   )
     where
-      unread : (before after : Option (List ℕ)) → IfSome before (λ b. IfSome after (λ a. length a < length b + length (begun_octets o []) → seen.left_after ≡ seen.left_before))
+      unread : (before after : Option (List ℕ)) → IfSome before (λ b. IfSome after (λ a. length a < length b + length (begun_octets o []) → seen.told_after ≡ seen.told_before))
       unread None after = tt
       unread (Some b) None = tt
       unread (Some b) (Some a) = λ few. same

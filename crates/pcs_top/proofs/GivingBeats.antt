@@ -16,7 +16,7 @@ use Rattle.pcs_io.specs.declared.header.Header.{Header}
 use Rattle.pcs_drive.specs.Seen.{Seen}
 use Rattle.pcs_drive.specs.CaptureCommand.{BeatsText, TookBeatsBy, TookAllBeatsBy, BrokeOffBy, FromBeats}
 use Rattle.pcs_drive.specs.declared.outcome.Outcome.{Outcome}
-use Rattle.pcs_drive.specs.declared.outcome.Outcome.TheVariants.{Done, ReadFault, WriteFault, NoMemory, BadLine, BadHeader, TooTight, Cut, NotAligned, TooLong}
+use Rattle.pcs_drive.specs.declared.outcome.Outcome.TheVariants.{Done, ReadFault, WriteFault, Cut, NotAligned, TooLong}
 use Rattle.pcs_drive.specs.Writing.{Wrote, Puts, BreaksOffBefore}
 use Rattle.pcs_drive.proofs.Copying.{rose-after}
 use Rattle.pcs_drive.proofs.WritingLemmas.{front-more, wrote-pending}
@@ -203,12 +203,9 @@ module _ (text : BeatsText) (before : List ℕ) (limit : ℕ) (header : Header) 
   pub written-before : (outcome : Outcome) → FromBeats text before limit header after outcome → FromBeats text before limit header seen outcome
   unfolding took
   written-before Done d = (d.0, took-all d.0 0 d.1, d.2, d.3)
-  written-before ReadFault d = (d.0, d.1, d.2, took d.0 d.1 d.3, d.4)
+  written-before ReadFault d = (d.0, d.1, d.2, took d.0 d.1 d.3, d.4, d.5)
   written-before WriteFault d = (d.0, rose-after seen.writes_before mid seen.writes_after later d.1, broke-off d.0 d.2)
-  written-before NoMemory d = d
-  written-before (BadLine number kind) d = d
-  written-before (BadHeader bad) d = d
-  written-before (TooTight frame) d = d
   written-before (Cut rest) d = (d.0, d.1, took-all d.0 rest d.2, d.3)
   written-before NotAligned d = (d.0, took-all d.0 0 d.1, d.2, d.3)
   written-before TooLong d = (d.0, d.1, took d.0 d.1 d.2, d.3, d.4)
+  written-before outcome d = absurd d

@@ -25,7 +25,7 @@ use Rattle.pcs_words.specs.declared.refusal.Refusal.{Refusal}
 use Rattle.pcs_drive.specs.Seen.{Seen, Written}
 use Rattle.pcs_drive.specs.CaptureCommand.{BeatsText, CaptureText, FromBeats, FromCapture, TookAllBeatsBy, outcome_at_end}
 use Rattle.pcs_drive.specs.declared.outcome.Outcome.{Outcome}
-use Rattle.pcs_drive.specs.declared.outcome.Outcome.TheVariants.{Done, ReadFault, WriteFault, NoMemory, BadLine, BadHeader, TooTight, Cut, NotAligned, TooLong}
+use Rattle.pcs_drive.specs.declared.outcome.Outcome.TheVariants.{Done, ReadFault, WriteFault, NoMemory, BadHeader, Cut, NotAligned, TooLong}
 use Rattle.pcs_drive.proofs.Completing.{front, all, opens-alone, captured}
 use Rattle.pcs_drive.proofs.HeadersStay.{header-stays}
 use Rattle.pcs_top.specs.Decoding.{good_text, decoded, skew_limit}
@@ -53,7 +53,7 @@ module _ (text : CaptureText) (before : List ℕ) (limit : ℕ) (header : Header
       → (header ≡ other) × (beats ≡ others) × (0 ≡ over)
   taken-alone other others over t =
       opens-alone header_at (before ++ t.got) header other beats others 0 over
-      (subst (λ os. OpensWhole (before ++ os) header beats 0) (all seen w.octets w.rest t.got w.had w.left t.took) w.whole) t.whole
+      (subst (λ os. OpensWhole (before ++ os) header beats 0) (all seen w.input t.got w.given t.took) w.whole) t.whole
 
   at-end : (aligned : Bool) (end : Outcome) (other : Header) (others : List (List ℕ)) → outcome_at_end 0 aligned ≡ end
       → TookAllBeatsBy header_at before limit other seen others 0 → (text other).is_aligned others ≡ aligned → Written seen ((text other).whole others)
@@ -67,16 +67,13 @@ module _ (text : CaptureText) (before : List ℕ) (limit : ℕ) (header : Header
   behind other Done c = at-end true Done other c.0 refl c.1 c.2 c.3
   behind other ReadFault c = absurd (w.reads c.2)
   behind other WriteFault c = absurd (w.writes c.1)
-  behind other NoMemory c = absurd c
-  behind other (BadLine number kind) c = absurd c
-  behind other (BadHeader bad) c = absurd c
-  behind other (TooTight frame) c = absurd c
   behind other (Cut over) c = let same = taken-alone other c.0 over c.2 in absurd (omega (arith, c.1, same.2))
   behind other NotAligned c = at-end false NotAligned other c.0 refl c.1 c.2 c.3
   behind other TooLong c =
       let got = c.2.got in
-      let parts = ap length (front seen.left_before seen.left_after w.octets w.rest got w.had w.left c.2.took) in
-      absurd (omega (arith, w.short, parts, length-append got w.rest, length-append before w.octets, length-append before got, c.3))
+      let parts = ap length (front seen w.input got w.given c.2.took) in
+      absurd (omega (arith, w.short, parts, length-append got w.given.rest, length-append before w.input, length-append before got, c.3))
+  behind other outcome c = absurd c
 
 -- a refusal has nothing to do with the text, so take one that asks for no alignment
 abbrev no_text : CaptureText
@@ -86,7 +83,7 @@ no_text header = record { so_far = λ bs. []; whole = λ bs. []; is_aligned = λ
 no-refusal : (header : Header) (beats : List (List ℕ)) (seen : Seen) (bad : Refused) → HasWholeCapture [] (2 ^ 40) header beats seen
     → FromCapture no_text seen (BadHeader bad) → ⊥
 no-refusal header beats seen bad w c =
-    none (captured header_at header-stays no_text seen w.octets w.rest header beats w.had w.left w.whole refl (BadHeader bad) w.short w.reads w.writes c)
+    none (captured header_at header-stays no_text seen w.input header beats w.given w.whole refl (BadHeader bad) w.short w.reads w.writes c)
   where
     none : (BadHeader bad ≡ Done) ⊎ (BadHeader bad ≡ NoMemory) → ⊥
     none (inl same) = cc
@@ -99,12 +96,11 @@ whole-capture text header beats seen ReadFault w (inl c) = absurd (w.reads c.1)
 whole-capture text header beats seen ReadFault w (inr c) = absurd (w.reads c.1.2)
 whole-capture text header beats seen WriteFault w c = absurd (w.writes c.1.1)
 whole-capture text header beats seen NoMemory w c = inr refl
-whole-capture text header beats seen (BadLine number kind) w c = absurd c
 whole-capture text header beats seen (BadHeader bad) w c = absurd (no-refusal header beats seen bad w c)
-whole-capture text header beats seen (TooTight frame) w c = absurd c
 whole-capture text header beats seen (Cut over) w c = inl (behind text [] (2 ^ 40) header beats seen w c.0 (Cut over) c.1)
 whole-capture text header beats seen NotAligned w c = inl (behind text [] (2 ^ 40) header beats seen w c.0 NotAligned c.1)
 whole-capture text header beats seen TooLong w c = inl (behind text [] (2 ^ 40) header beats seen w c.0 TooLong c.1)
+whole-capture text header beats seen outcome w c = absurd c
 
 -- ---- the laws, for lines
 can-be-sent : (line : FrameLine) → IsSent line → CanBeSent (item_of line)
@@ -206,7 +202,7 @@ of-decode G follows watchers words seen heard status runs options header beats i
     skew = skew_limit options.skew header
 
     less : 2 * skew < 680 * header.period
-    less = let range = header-ranged w.octets header w.whole.1.0 w.whole.1.1 in omega (arith, range.least, range.skew)
+    less = let range = header-ranged w.input header w.whole.1.0 w.whole.1.1 in omega (arith, range.least, range.skew)
 
     by : (outcome : Outcome) → runs.0 ≡ status_of outcome → IsWhole (decoded options.skew header) beats seen outcome ⊎ (outcome ≡ NoMemory)
         → G header.period skew beats seen status

@@ -1,11 +1,11 @@
 -- The headline and any damage: what stands written where all the beats of a capture are an image of a transmission.
---     HasWholeCapture     the input is a header and whole beats, and no read and no write failed
+--     HasWholeCapture     what reads gave is a header and whole beats, and no read and no write failed
 --     HeadlinePremises    the beats are an image, with a skew within the limit, and each lane's first matching marker pair is true
 --     DamagePremises      the beats are such an image, and each hunt is true
 --     GivesNamedFrames    with at most fifteen wrong symbols in a codeword, exactly the named frames are written
 --     GivesUnmarkedFrames whatever the damage, exactly the frames in unmarked wides are written
 --     GivesGoodFrames     of any beats, the good frames are written, and the run is done where the lanes were aligned
-use Rattle.std.specs.Prelude.{◌≡◌, ◌≢◌, ℕ, ◌^◌, ◌*◌, ◌<◌, ◌≤◌, List, [], ◌++◌, length, Some, Result, Ok}
+use Rattle.std.specs.Prelude.{◌≡◌, ◌≢◌, ℕ, ◌^◌, ◌*◌, ◌<◌, ◌≤◌, List, [], ◌++◌, length, Result, Ok}
 use Rattle.std.specs.List.{AllByRecursion, list_any}
 use Rattle.mac_columns.specs.declared.column.Column.{Column}
 use Rattle.mac_columns.specs.RunPlaces.{frames_of_runs}
@@ -26,6 +26,7 @@ use Rattle.pcs_words.specs.declared.command.SkewOptions.{SkewOptions}
 use Rattle.pcs_words.specs.declared.refusal.Refusal.{Refusal}
 use Rattle.pcs_drive.specs.Seen.{Seen, Written, ReadFailed, WriteFailed}
 use Rattle.pcs_drive.specs.CaptureCommand.{outcome_at_end}
+use Rattle.pcs_drive.specs.Deciding.{Given}
 use Rattle.pcs_top.specs.Decoding.{skew_limit}
 use Rattle.pcs_top.specs.EventTexts.{capture, has_alignment}
 use Rattle.pcs_top.specs.Laws.{IsSent}
@@ -36,15 +37,13 @@ use Rattle.pcs_top.specs.Texts.{frame_text}
 use Rattle.pcs_top.specs.declared.status.Status.{Status}
 use Rattle.pcs_top.specs.declared.status.Status.TheVariants.{Done, NoMemory}
 
--- What the reader held before, and all that the source had, is a header and these whole beats, and ends before the reader's limit. The
--- source tells what it has left, and no read and no write failed.
+-- What the reader held before, and the input that reads gave, is a header and these whole beats, and ends before the reader's limit. No
+-- read and no write failed.
 pub record HasWholeCapture (before : List ℕ) (limit : ℕ) (header : Header) (beats : List (List ℕ)) (seen : Seen) : Type 0 where
-  pub octets : List ℕ
-  pub rest : List ℕ
-  pub had : seen.left_before ≡ Some octets
-  pub left : seen.left_after ≡ Some rest
-  pub whole : OpensWhole (before ++ octets) header beats 0
-  pub short : length (before ++ octets) < limit
+  pub input : List ℕ
+  pub given : Given seen input
+  pub whole : OpensWhole (before ++ input) header beats 0
+  pub short : length (before ++ input) < limit
   pub reads : ¬ ReadFailed seen
   pub writes : ¬ WriteFailed seen
 

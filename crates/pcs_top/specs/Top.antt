@@ -1,5 +1,5 @@
 -- The answers of the top call.
-use Rattle.std.specs.Prelude.{◌≡◌, ◌⊎◌, ⊤, ℕ, ◌^◌, ◌<◌, true, List, length, Some, Result, Ok, Err}
+use Rattle.std.specs.Prelude.{◌≡◌, ◌⊎◌, ⊤, ℕ, ◌^◌, ◌<◌, true, List, length, Result, Ok, Err}
 use Rattle.pcs_watch.specs.Watching.{Seen as Watched}
 use Rattle.rate_match.specs.Kept.{HasLegalGaps}
 use Rattle.pcs_io.specs.Faults.{Rose}
@@ -16,6 +16,7 @@ use Rattle.pcs_words.specs.declared.command.Command.TheVariants as command
 use Rattle.pcs_words.specs.declared.refusal.Refusal.{Refusal}
 use Rattle.pcs_words.specs.declared.refusal.Refusal.TheVariants.{Memory, Usage as Refused}
 use Rattle.pcs_drive.specs.Seen.{Seen, Untouched, ReadFailed, WriteFailed}
+use Rattle.pcs_drive.specs.Deciding.{Given}
 use Rattle.pcs_drive.specs.LineCommand.{Converted, OrNoMemory}
 use Rattle.pcs_drive.specs.CaptureCommand.{CaptureText, FromCapture, FromLevels}
 use Rattle.pcs_late.specs.Kr.{kr_text}
@@ -95,7 +96,7 @@ pub record NothingFailed (seen : Seen) (heard : Heard) : Type 0 where
   pub writes : ¬ WriteFailed seen
   pub notes : ¬ Rose heard.writes_before heard.writes_after
 
--- an input in the grammar is turned into its text, unless something fails or there is no memory
+-- an input in the grammar, which reads gave, is turned into its text, unless something fails or there is no memory
 abbrev pub IsComplete : List Watched → Result Command Refusal → Seen → Heard → Status → Type 0
-IsComplete watchers words seen heard status = (octets rest : List ℕ) → seen.left_before ≡ Some octets → seen.left_after ≡ Some rest
-    → InGrammar watchers words octets → length octets < 2 ^ 40 → NothingFailed seen heard → (status ≡ Done) ⊎ (status ≡ NoMemory)
+IsComplete watchers words seen heard status = (input : List ℕ) → Given seen input
+    → InGrammar watchers words input → length input < 2 ^ 40 → NothingFailed seen heard → (status ≡ Done) ⊎ (status ≡ NoMemory)

@@ -23,7 +23,7 @@ const LINE: usize = 20;
 /// Reads frame lines and writes their block lines.
 pub fn blocks<R: Source, W: Sink>(alloc: Global, source: &mut R, sink: &mut W) -> Outcome
     ensures { OrNoMemory (Converted frame_line_at block_text)
-        (seen R.left R.ended R.faults W.held W.faults source.old source.new sink.old sink.new) result }
+        (seen R.told R.ended R.faults W.held W.faults source.old source.new sink.old sink.new) result }
 {
     match Lines::open(alloc, LIMIT) {
         Ok(mut lines) => blocks_opened(&mut lines, source, sink),
@@ -35,7 +35,7 @@ pub fn blocks<R: Source, W: Sink>(alloc: Global, source: &mut R, sink: &mut W) -
 pub fn blocks_opened<R: Source, W: Sink>(lines: &mut Lines, source: &mut R, sink: &mut W) -> Outcome
     requires { Stands frame_line_at lines.old (opened (2 ^ 40)) }
     ensures { Converted frame_line_at block_text
-        (seen R.left R.ended R.faults W.held W.faults source.old source.new sink.old sink.new) result }
+        (seen R.told R.ended R.faults W.held W.faults source.old source.new sink.old sink.new) result }
 {
     let mut output = Output::new();
     drive_lines(

@@ -23,7 +23,7 @@ use std::alloc::Global;
 /// that of the capture where that is smaller.
 pub fn decode<R: Source, W: Sink>(alloc: Global, limit: u32, source: &mut R, sink: &mut W) -> Status
     ensures { ByOutcome (FromCapture (decoded limit)
-        (seen R.left R.ended R.faults W.held W.faults source.old source.new sink.old sink.new)) result }
+        (seen R.told R.ended R.faults W.held W.faults source.old source.new sink.old sink.new)) result }
 {
     match open_capture(alloc, source) {
         Ok((mut beats, header)) => {
@@ -49,16 +49,16 @@ pub fn decode_opened<R: Source, W: Sink>(
     requires begun { (period : ℕ) × (skew : ℕ) × HasBegun receiver.old period skew false }
     ensures answers { (h : History) (header : Header) (period skew : ℕ) → HasHeader beats.old h header → HasBegun receiver.old period skew false
         → ByOutcome (FromBeats (good_text period skew) h.octets h.limit header
-        (seen R.left R.ended R.faults W.held W.faults source.old source.new sink.old sink.new)) result }
+        (seen R.told R.ended R.faults W.held W.faults source.old source.new sink.old sink.new)) result }
     ensures headline { (h : History) (header : Header) (period skew : ℕ) → HasHeader beats.old h header → HasBegun receiver.old period skew false
         → Headline h.octets h.limit header period skew
-        (seen R.left R.ended R.faults W.held W.faults source.old source.new sink.old sink.new) result }
+        (seen R.told R.ended R.faults W.held W.faults source.old source.new sink.old sink.new) result }
     ensures any_damage { (h : History) (header : Header) (period skew : ℕ) → HasHeader beats.old h header → HasBegun receiver.old period skew false
         → AnyDamage h.octets h.limit header period skew
-        (seen R.left R.ended R.faults W.held W.faults source.old source.new sink.old sink.new) result }
+        (seen R.told R.ended R.faults W.held W.faults source.old source.new sink.old sink.new) result }
     ensures complete { (h : History) (header : Header) (period skew : ℕ) → HasHeader beats.old h header → HasBegun receiver.old period skew false
         → Complete h.octets h.limit header period skew
-        (seen R.left R.ended R.faults W.held W.faults source.old source.new sink.old sink.new) result }
+        (seen R.told R.ended R.faults W.held W.faults source.old source.new sink.old sink.new) result }
 {
     let mut listening = Listening::new(receiver, FrameLines);
     let mut output = Output::new();

@@ -267,7 +267,7 @@ fn put_lines<R: Source, W: Sink>(
     requires written { output.old ≡ [] }
     ensures { (start : Option (List ℕ)) → HasPut sender.old options.now [] start (W.held sink.old) output.old
         → Encodes options.now (since start
-        (seen R.left R.ended R.faults W.held W.faults source.old source.new sink.old sink.new)) result }
+        (seen R.told R.ended R.faults W.held W.faults source.old source.new sink.old sink.new)) result }
 {
     loop {
         output.release(sink, lines.holds_line())?;
@@ -308,7 +308,7 @@ fn transmit<R: Source, W: Sink>(
     requires opened { ReaderStands frame_line_at lines.old (opened (2 ^ 40)) }
     requires empty { output.old ≡ [] }
     ensures { Encodes options.now
-        (seen R.left R.ended R.faults W.held W.faults source.old source.new sink.old sink.new) result }
+        (seen R.told R.ended R.faults W.held W.faults source.old source.new sink.old sink.new) result }
 {
     let mut sender = Sender::new(options.period);
     begin(options, &mut sender, output, sink)?;
@@ -325,7 +325,7 @@ pub fn encode<R: Source, W: Sink>(
 ) -> Outcome
     requires { IsEncode options.now }
     ensures { OrNoMemory (Encoded options.now)
-        (seen R.left R.ended R.faults W.held W.faults source.old source.new sink.old sink.new) result }
+        (seen R.told R.ended R.faults W.held W.faults source.old source.new sink.old sink.new) result }
 {
     match Lines::open(alloc, LIMIT) {
         Ok(mut lines) => encode_opened(options, &mut lines, source, sink),
@@ -343,7 +343,7 @@ pub fn encode_opened<R: Source, W: Sink>(
     requires ranges { IsEncode options.now }
     requires opened { ReaderStands frame_line_at lines.old (opened (2 ^ 40)) }
     ensures { Encoded options.now
-        (seen R.left R.ended R.faults W.held W.faults source.old source.new sink.old sink.new) result }
+        (seen R.told R.ended R.faults W.held W.faults source.old source.new sink.old sink.new) result }
 {
     let mut output = Output::new();
     match transmit(options, lines, &mut output, source, sink) {

@@ -26,7 +26,7 @@ pub fn impair<R: Source, W: Sink>(
 ) -> Outcome
     requires { AreItems items.now }
     ensures { FromCapture (impairing items.now)
-        (seen R.left R.ended R.faults W.held W.faults source.old source.new sink.old sink.new) result }
+        (seen R.told R.ended R.faults W.held W.faults source.old source.new sink.old sink.new) result }
 {
     match open_capture(alloc, source) {
         Ok((mut beats, header)) => match Impairer::open(alloc, items) {
@@ -50,7 +50,7 @@ fn impair_opened<R: Source, W: Sink>(
     requires fresh { (impairer.taken ≡ 0) × (impairer.finished ≡ false) }
     ensures { (h : History) (items : List ItemValue) → HasHeader beats.old h header.now → All IsItem items → Stands impairer (opened items)
         → FromBeats (impairing items header.now) h.octets h.limit header.now
-        (seen R.left R.ended R.faults W.held W.faults source.old source.new sink.old sink.new) result }
+        (seen R.told R.ended R.faults W.held W.faults source.old source.new sink.old sink.new) result }
 {
     let mut output = text_of(header);
     let mut damaging = Damaging { impairer };

@@ -17,7 +17,7 @@ pub fn migrate<R: Source, W: Sink>(
     sink: &mut W,
 ) -> Outcome
     ensures { FromCapture (migrated skew)
-        (seen R.left R.ended R.faults W.held W.faults source.old source.new sink.old sink.new) result }
+        (seen R.told R.ended R.faults W.held W.faults source.old source.new sink.old sink.new) result }
 {
     match open_capture(alloc, source) {
         Ok((mut beats, header)) => {

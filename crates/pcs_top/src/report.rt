@@ -28,7 +28,7 @@ pub fn report<R: Source, W: Sink>(
     sink: &mut W,
 ) -> Outcome
     ensures { FromCapture (reported (map (watched label tally after leaves) watchers.items) limit)
-        (seen R.left R.ended R.faults W.held W.faults source.old source.new sink.old sink.new) result }
+        (seen R.told R.ended R.faults W.held W.faults source.old source.new sink.old sink.new) result }
 {
     match open_capture(alloc, source) {
         Ok((mut beats, header)) => {

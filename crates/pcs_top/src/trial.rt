@@ -6,7 +6,7 @@ ghost use Rattle.mac_columns.specs.Columns.{columns_of};
 ghost use Rattle.lane_impair.specs.Noise.{state_after};
 ghost use Rattle.rate_match.specs.Kept.{debt, HasLegalGaps};
 ghost use Rattle.pcs_io.specs.Faults.{HasCause};
-ghost use Rattle.pcs_io.specs.Octets.{AppendsFront};
+ghost use Rattle.pcs_io.specs.Octets.{Told, AppendsFront};
 ghost use Rattle.pcs_send.specs.Transmission.{pair_beats, sent_columns};
 ghost use Rattle.pcs_send.specs.Histories.{Sending, after_take};
 ghost use Rattle.pcs_send.specs.Holding.{Stands, is_ready};
@@ -31,8 +31,8 @@ use trial_laws::{FrameMaker, Summary, draw, draw_items, strike, words_of};
 /// Makes frames from a seed, sends them, damages what is sent, receives it, and writes a summary.
 pub fn trial<W: Sink>(alloc: Global, options: &TrialOptions, sink: &mut W) -> Outcome
     requires { IsTrial options.now }
-    ensures { (left : Option (List ℕ)) (ended : Bool) (reads : ℕ)
-        → Tried options.now (writes_only W.held W.faults sink.old sink.new left ended reads) result }
+    ensures { (told : Told) (ended : Bool) (reads : ℕ)
+        → Tried options.now (writes_only W.held W.faults sink.old sink.new told ended reads) result }
 {
     match Trying::open(alloc, options) {
         Ok(mut trial) => {

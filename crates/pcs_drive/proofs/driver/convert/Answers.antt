@@ -24,14 +24,14 @@ loop-beats-init g c = record {
 pub returns-in_err-take_all : goal.returns-in_err-take_all
 returns-in_err-take_all g c =
     let exit = err_from_is_err_and c.from_residual.result c.from_residual.ensures.1 in
-    let around : Option (List ℕ) → Seen = λ start. since start (seen g.R.Source.left g.R.Source.ended g.R.Source.faults g.W.Sink.held g.W.Sink.faults c.args.source.now c.loop-beats.source c.args.sink.now c.take_all.new.sink) in
+    let around : Option (List ℕ) → Seen = λ start. since start (seen g.R.Source.told g.R.Source.ended g.R.Source.faults g.W.Sink.held g.W.Sink.faults c.args.source.now c.loop-beats.source c.args.sink.now c.take_all.new.sink) in
     rw exit.1 (λ kind h header text start has put.
     all-failed g.T.Task.Keeps (at_of kind) h header text has.going (around start) _ _ _ _ _ _ (c.loop-beats.invariant.reading kind h header text start has put) c.held.ensures.octets (λ k s. beats-passed-of kind header c.loop-beats.beats (c.loop-beats.invariant.front ∙ has.read) k s) (rose-after _ _ _ c.loop-beats.invariant.writes c.in_err-take_all.ensures.cause.failed) c.in_err-take_all.ensures.err)
 
 pub returns-in_err-flush : goal.returns-in_err-flush
 returns-in_err-flush g c =
     let exit = err_from_is_err_and c.from_residual-in_err-flush.result c.from_residual-in_err-flush.ensures.1 in
-    let around : Option (List ℕ) → Seen = λ start. since start (seen g.R.Source.left g.R.Source.ended g.R.Source.faults g.W.Sink.held g.W.Sink.faults c.args.source.now c.loop-beats.source c.args.sink.now c.flush.new.sink) in
+    let around : Option (List ℕ) → Seen = λ start. since start (seen g.R.Source.told g.R.Source.ended g.R.Source.faults g.W.Sink.held g.W.Sink.faults c.args.source.now c.loop-beats.source c.args.sink.now c.flush.new.sink) in
     let later : g.W.Sink.faults c.args.sink.now ≤ g.W.Sink.faults c.take_all.new.sink = omega (arith, c.loop-beats.invariant.writes, c.take_all.ensures.cause.later) in
     rw exit.1 (λ kind h header text start has put.
     let all = reading-all g.T.Task.Keeps (at_of kind) h header text has.going _ _ _ _ _ _ start _ _ _ _ _ (c.loop-beats.invariant.reading kind h header text start has put) c.held.ensures.octets (passes-of kind header _ _ (c.loop-beats.invariant.front ∙ has.read) c.pass.ensures.passes c.pass.ensures.levels) c.in_ok-take_all.ensures.ok in
@@ -40,7 +40,7 @@ returns-in_err-flush g c =
 pub loop-beats-preserved : goal.loop-beats-preserved
 loop-beats-preserved g c =
     let is : c.next.result ≡ Ok (Beat c.in-Ok-Beat.beat) = c.in-Ok-Beat.is ∙ ap (λ b. Ok b) c.in-Ok-Beat.field-0-is in
-    let around : Option (List ℕ) → Seen = λ start. since start (seen g.R.Source.left g.R.Source.ended g.R.Source.faults g.W.Sink.held g.W.Sink.faults c.args.source.now c.next.new.source c.args.sink.now c.take.new.sink) in
+    let around : Option (List ℕ) → Seen = λ start. since start (seen g.R.Source.told g.R.Source.ended g.R.Source.faults g.W.Sink.held g.W.Sink.faults c.args.source.now c.next.new.source c.args.sink.now c.take.new.sink) in
     record {
       reading = λ kind h header text start has put.
           let all = reading-all g.T.Task.Keeps (at_of kind) h header text has.going _ _ _ _ _ _ start _ _ _ _ _ (c.loop-beats.invariant.reading kind h header text start has put) c.held.ensures.octets (passes-of kind header _ _ (c.loop-beats.invariant.front ∙ has.read) c.pass.ensures.passes c.pass.ensures.levels) c.in_ok-take_all.ensures.ok in
@@ -60,7 +60,7 @@ pub returns-in_err-take-in-Ok-Beat : goal.returns-in_err-take-in-Ok-Beat
 returns-in_err-take-in-Ok-Beat g c =
     let exit = err_from_is_err_and c.from_residual-in_err-take-in-Ok-Beat.result c.from_residual-in_err-take-in-Ok-Beat.ensures.1 in
     let is : c.next.result ≡ Ok (Beat c.in-Ok-Beat.beat) = c.in-Ok-Beat.is ∙ ap (λ b. Ok b) c.in-Ok-Beat.field-0-is in
-    let around : Option (List ℕ) → Seen = λ start. since start (seen g.R.Source.left g.R.Source.ended g.R.Source.faults g.W.Sink.held g.W.Sink.faults c.args.source.now c.next.new.source c.args.sink.now c.take.new.sink) in
+    let around : Option (List ℕ) → Seen = λ start. since start (seen g.R.Source.told g.R.Source.ended g.R.Source.faults g.W.Sink.held g.W.Sink.faults c.args.source.now c.next.new.source c.args.sink.now c.take.new.sink) in
     let later : g.W.Sink.faults c.args.sink.now ≤ g.W.Sink.faults c.flush.new.sink = omega (arith, c.loop-beats.invariant.writes, c.take_all.ensures.cause.later, c.flush.ensures.cause.later) in
     rw exit.1 (λ kind h header text start has put.
     let all = reading-all g.T.Task.Keeps (at_of kind) h header text has.going _ _ _ _ _ _ start _ _ _ _ _ (c.loop-beats.invariant.reading kind h header text start has put) c.held.ensures.octets (passes-of kind header _ _ (c.loop-beats.invariant.front ∙ has.read) c.pass.ensures.passes c.pass.ensures.levels) c.in_ok-take_all.ensures.ok in
@@ -71,7 +71,7 @@ pub returns-in_err-aligned-in-Ok-End : goal.returns-in_err-aligned-in-Ok-End
 returns-in_err-aligned-in-Ok-End g c =
     let exit = err_from_is_err_and c.from_residual-in_err-aligned-in-Ok-End.result c.from_residual-in_err-aligned-in-Ok-End.ensures.1 in
     let is : c.next.result ≡ Ok (End c.in-Ok-End.rest) = c.in-Ok-End.is ∙ ap (λ b. Ok b) c.in-Ok-End.field-0-is in
-    let around : Option (List ℕ) → Seen = λ start. since start (seen g.R.Source.left g.R.Source.ended g.R.Source.faults g.W.Sink.held g.W.Sink.faults c.args.source.now c.next.new.source c.args.sink.now c.finish.new.sink) in
+    let around : Option (List ℕ) → Seen = λ start. since start (seen g.R.Source.told g.R.Source.ended g.R.Source.faults g.W.Sink.held g.W.Sink.faults c.args.source.now c.next.new.source c.args.sink.now c.finish.new.sink) in
     let later : g.W.Sink.faults c.args.sink.now ≤ g.W.Sink.faults c.flush.new.sink = omega (arith, c.loop-beats.invariant.writes, c.take_all.ensures.cause.later, c.flush.ensures.cause.later) in
     rw exit.1 (λ kind h header text start has put.
     let all = reading-all g.T.Task.Keeps (at_of kind) h header text has.going _ _ _ _ _ _ start _ _ _ _ _ (c.loop-beats.invariant.reading kind h header text start has put) c.held.ensures.octets (passes-of kind header _ _ (c.loop-beats.invariant.front ∙ has.read) c.pass.ensures.passes c.pass.ensures.levels) c.in_ok-take_all.ensures.ok in
@@ -82,7 +82,7 @@ pub returns-in_err-flush-in-Ok-End : goal.returns-in_err-flush-in-Ok-End
 returns-in_err-flush-in-Ok-End g c =
     let exit = err_from_is_err_and c.from_residual-in_err-flush-in-Ok-End.result c.from_residual-in_err-flush-in-Ok-End.ensures.1 in
     let is : c.next.result ≡ Ok (End c.in-Ok-End.rest) = c.in-Ok-End.is ∙ ap (λ b. Ok b) c.in-Ok-End.field-0-is in
-    let around : Option (List ℕ) → Seen = λ start. since start (seen g.R.Source.left g.R.Source.ended g.R.Source.faults g.W.Sink.held g.W.Sink.faults c.args.source.now c.next.new.source c.args.sink.now c.flush-in-Ok-End.new.sink) in
+    let around : Option (List ℕ) → Seen = λ start. since start (seen g.R.Source.told g.R.Source.ended g.R.Source.faults g.W.Sink.held g.W.Sink.faults c.args.source.now c.next.new.source c.args.sink.now c.flush-in-Ok-End.new.sink) in
     let later : g.W.Sink.faults c.args.sink.now ≤ g.W.Sink.faults c.finish.new.sink = omega (arith, c.loop-beats.invariant.writes, c.take_all.ensures.cause.later, c.flush.ensures.cause.later, c.finish.ensures.cause.later) in
     rw exit.1 (λ kind h header text start has put.
     let all = reading-all g.T.Task.Keeps (at_of kind) h header text has.going _ _ _ _ _ _ start _ _ _ _ _ (c.loop-beats.invariant.reading kind h header text start has put) c.held.ensures.octets (passes-of kind header _ _ (c.loop-beats.invariant.front ∙ has.read) c.pass.ensures.passes c.pass.ensures.levels) c.in_ok-take_all.ensures.ok in
@@ -92,7 +92,7 @@ returns-in_err-flush-in-Ok-End g c =
 pub returns-in-Ok-End : goal.returns-in-Ok-End
 returns-in-Ok-End g c =
     let is : c.next.result ≡ Ok (End c.in-Ok-End.rest) = c.in-Ok-End.is ∙ ap (λ b. Ok b) c.in-Ok-End.field-0-is in
-    let around : Option (List ℕ) → Seen = λ start. since start (seen g.R.Source.left g.R.Source.ended g.R.Source.faults g.W.Sink.held g.W.Sink.faults c.args.source.now c.next.new.source c.args.sink.now c.flush-in-Ok-End.new.sink) in
+    let around : Option (List ℕ) → Seen = λ start. since start (seen g.R.Source.told g.R.Source.ended g.R.Source.faults g.W.Sink.held g.W.Sink.faults c.args.source.now c.next.new.source c.args.sink.now c.flush-in-Ok-End.new.sink) in
     rw c.outcome_at_end.ensures (λ kind h header text start has put.
     let all = reading-all g.T.Task.Keeps (at_of kind) h header text has.going _ _ _ _ _ _ start _ _ _ _ _ (c.loop-beats.invariant.reading kind h header text start has put) c.held.ensures.octets (passes-of kind header _ _ (c.loop-beats.invariant.front ∙ has.read) c.pass.ensures.passes c.pass.ensures.levels) c.in_ok-take_all.ensures.ok in
     let kept = reading-kept g.T.Task.Keeps (at_of kind) h header text _ _ _ _ start _ (g.W.Sink.held c.flush.new.sink) _ c.flush.new.self all (rw c.in_ok-flush.ensures.empty c.in_ok-flush.ensures.ok) in
@@ -101,7 +101,7 @@ returns-in-Ok-End g c =
 pub returns-in_err-flush-in-Err : goal.returns-in_err-flush-in-Err
 returns-in_err-flush-in-Err g c =
     let exit = err_from_is_err_and c.from_residual-in_err-flush-in-Err.result c.from_residual-in_err-flush-in-Err.ensures.1 in
-    let around : Option (List ℕ) → Seen = λ start. since start (seen g.R.Source.left g.R.Source.ended g.R.Source.faults g.W.Sink.held g.W.Sink.faults c.args.source.now c.next.new.source c.args.sink.now c.flush-in-Err.new.sink) in
+    let around : Option (List ℕ) → Seen = λ start. since start (seen g.R.Source.told g.R.Source.ended g.R.Source.faults g.W.Sink.held g.W.Sink.faults c.args.source.now c.next.new.source c.args.sink.now c.flush-in-Err.new.sink) in
     let later : g.W.Sink.faults c.args.sink.now ≤ g.W.Sink.faults c.flush.new.sink = omega (arith, c.loop-beats.invariant.writes, c.take_all.ensures.cause.later, c.flush.ensures.cause.later) in
     rw exit.1 (λ kind h header text start has put.
     let all = reading-all g.T.Task.Keeps (at_of kind) h header text has.going _ _ _ _ _ _ start _ _ _ _ _ (c.loop-beats.invariant.reading kind h header text start has put) c.held.ensures.octets (passes-of kind header _ _ (c.loop-beats.invariant.front ∙ has.read) c.pass.ensures.passes c.pass.ensures.levels) c.in_ok-take_all.ensures.ok in
@@ -110,7 +110,7 @@ returns-in_err-flush-in-Err g c =
 
 pub returns-in-Err : goal.returns-in-Err
 returns-in-Err g c =
-    let around : Option (List ℕ) → Seen = λ start. since start (seen g.R.Source.left g.R.Source.ended g.R.Source.faults g.W.Sink.held g.W.Sink.faults c.args.source.now c.next.new.source c.args.sink.now c.flush-in-Err.new.sink) in
+    let around : Option (List ℕ) → Seen = λ start. since start (seen g.R.Source.told g.R.Source.ended g.R.Source.faults g.W.Sink.held g.W.Sink.faults c.args.source.now c.next.new.source c.args.sink.now c.flush-in-Err.new.sink) in
     rw c.from.ensures (λ kind h header text start has put.
     let all = reading-all g.T.Task.Keeps (at_of kind) h header text has.going _ _ _ _ _ _ start _ _ _ _ _ (c.loop-beats.invariant.reading kind h header text start has put) c.held.ensures.octets (passes-of kind header _ _ (c.loop-beats.invariant.front ∙ has.read) c.pass.ensures.passes c.pass.ensures.levels) c.in_ok-take_all.ensures.ok in
     let kept = reading-kept g.T.Task.Keeps (at_of kind) h header text _ _ _ _ start _ (g.W.Sink.held c.flush.new.sink) _ c.flush.new.self all (rw c.in_ok-flush.ensures.empty c.in_ok-flush.ensures.ok) in

@@ -8,7 +8,7 @@ use Rattle.pcs_drive.proofs.Driving.{Reading}
 use Rattle.pcs_drive.proofs.driver.convert.Given as goal
 
 abbrev pub invariant-loop-beats : goal.invariant-loop-beats
-invariant-loop-beats g l = let task = g.T.Task in let left = g.R.Source.left in let held = g.W.Sink.held in
+invariant-loop-beats g l = let task = g.T.Task in let left = g.R.Source.told in let held = g.W.Sink.held in
     record {
       reading : (kind : FileKind) (h : History) (header : HeaderOf kind) (text : BeatsText) (start : Option (List ℕ))
           → HasHeaderBy (at_of kind) (front_of kind) l.fn.beats h header → HasPut task.Keeps l.fn.task text [] start (held l.fn.sink) l.fn.output

@@ -17,7 +17,7 @@ loop-reader-init g c = record {
 pub returns-in_err-release : goal.returns-in_err-release
 returns-in_err-release g c =
     let exit = err_from_is_err_and c.from_residual.result c.from_residual.ensures.1 in
-    let around : Option (List ℕ) → Seen = λ start. since start (seen g.R.Source.left g.R.Source.ended g.R.Source.faults g.W.Sink.held g.W.Sink.faults c.args.source.now c.loop-reader.source c.args.sink.now c.release.new.sink) in
+    let around : Option (List ℕ) → Seen = λ start. since start (seen g.R.Source.told g.R.Source.ended g.R.Source.faults g.W.Sink.held g.W.Sink.faults c.args.source.now c.loop-reader.source c.args.sink.now c.release.new.sink) in
     rw exit.1 (λ text_of start same wrote.
     copied-failed _ _ _ (around start) _ _ _ (c.loop-reader.invariant.copied text_of start same wrote)
     (rose-after _ _ _ c.loop-reader.invariant.writes c.in_err-release.ensures.cause.failed) c.in_err-release.ensures.err)
@@ -49,7 +49,7 @@ returns-in_err-put_line-in-Ok-true g c =
     let later : g.W.Sink.faults c.args.sink.now ≤ g.W.Sink.faults c.release.new.sink = omega (arith, c.release.ensures.cause.later, c.loop-reader.invariant.writes) in
     let breaks = subst (λ p. BreaksAtLine g.T.LineTask.Keeps g.T.LineTask.text c.loop-reader.task p (g.W.Sink.held c.release.new.sink) c.release.new.self (g.W.Sink.held c.put_line.new.sink))
     c.parser.ensures c.in_err-put_line-in-Ok-true.ensures.err in
-    let around : Option (List ℕ) → Seen = λ start. since start (seen g.R.Source.left g.R.Source.ended g.R.Source.faults g.W.Sink.held g.W.Sink.faults c.args.source.now c.next.new.source c.args.sink.now c.put_line.new.sink) in
+    let around : Option (List ℕ) → Seen = λ start. since start (seen g.R.Source.told g.R.Source.ended g.R.Source.faults g.W.Sink.held g.W.Sink.faults c.args.source.now c.next.new.source c.args.sink.now c.put_line.new.sink) in
     rw exit.1 (λ text_of start same wrote.
     let kept = copied-kept _ _ _ _ _ _ _ _ _ _ _ (c.loop-reader.invariant.copied text_of start same wrote) c.in_ok-release.ensures.ok in
     line-failed _ _ _ (around start) _ _ _ _ _ _ kept next (rose-after _ _ _ later c.in_err-put_line-in-Ok-true.ensures.cause.failed)
@@ -62,7 +62,7 @@ returns-in_err-flush-in-Ok-false g c =
     let is : answer_of c.next.result line ≡ Ok None = ap (λ r. answer_of r line) (c.in-Ok-false.is ∙ ap (λ b. Ok b) c.in-Ok-false.field-0-test) in
     let next = next-end _ _ _ _ _ _ _ is c.next.ensures.nexts in
     let later : g.W.Sink.faults c.args.sink.now ≤ g.W.Sink.faults c.release.new.sink = omega (arith, c.release.ensures.cause.later, c.loop-reader.invariant.writes) in
-    let around : Option (List ℕ) → Seen = λ start. since start (seen g.R.Source.left g.R.Source.ended g.R.Source.faults g.W.Sink.held g.W.Sink.faults c.args.source.now c.next.new.source c.args.sink.now c.flush.new.sink) in
+    let around : Option (List ℕ) → Seen = λ start. since start (seen g.R.Source.told g.R.Source.ended g.R.Source.faults g.W.Sink.held g.W.Sink.faults c.args.source.now c.next.new.source c.args.sink.now c.flush.new.sink) in
     rw exit.1 (λ text_of start same wrote.
     let kept = copied-kept _ _ _ _ _ _ _ _ _ _ _ (c.loop-reader.invariant.copied text_of start same wrote) c.in_ok-release.ensures.ok in
     end-failed _ _ _ (around start) _ _ _ _ _ kept next (rose-after _ _ _ later c.in_err-flush-in-Ok-false.ensures.cause.failed) c.in_err-flush-in-Ok-false.ensures.err)
@@ -72,7 +72,7 @@ returns-in-Ok-false g c =
     let line = g.P.Parser.line c.next.new.self.parser in
     let is : answer_of c.next.result line ≡ Ok None = ap (λ r. answer_of r line) (c.in-Ok-false.is ∙ ap (λ b. Ok b) c.in-Ok-false.field-0-test) in
     let next = next-end _ _ _ _ _ _ _ is c.next.ensures.nexts in
-    let around : Option (List ℕ) → Seen = λ start. since start (seen g.R.Source.left g.R.Source.ended g.R.Source.faults g.W.Sink.held g.W.Sink.faults c.args.source.now c.next.new.source c.args.sink.now c.flush.new.sink) in
+    let around : Option (List ℕ) → Seen = λ start. since start (seen g.R.Source.told g.R.Source.ended g.R.Source.faults g.W.Sink.held g.W.Sink.faults c.args.source.now c.next.new.source c.args.sink.now c.flush.new.sink) in
     λ text_of start same wrote.
     let kept = copied-kept _ _ _ _ _ _ _ _ _ _ _ (c.loop-reader.invariant.copied text_of start same wrote) c.in_ok-release.ensures.ok in
     copied-done _ _ _ (around start) _ _ _ _ _ kept next c.in_ok-flush-in-Ok-false.ensures.ok
@@ -83,7 +83,7 @@ returns-in_err-flush-in-Err g c =
     let line = g.P.Parser.line c.next.new.self.parser in
     let next = next-fault _ _ _ _ _ _ _ c.in-Err.fault (ap (λ r. answer_of r line) c.in-Err.is) c.next.ensures.nexts in
     let later : g.W.Sink.faults c.args.sink.now ≤ g.W.Sink.faults c.release.new.sink = omega (arith, c.release.ensures.cause.later, c.loop-reader.invariant.writes) in
-    let around : Option (List ℕ) → Seen = λ start. since start (seen g.R.Source.left g.R.Source.ended g.R.Source.faults g.W.Sink.held g.W.Sink.faults c.args.source.now c.next.new.source c.args.sink.now c.flush-in-Err.new.sink) in
+    let around : Option (List ℕ) → Seen = λ start. since start (seen g.R.Source.told g.R.Source.ended g.R.Source.faults g.W.Sink.held g.W.Sink.faults c.args.source.now c.next.new.source c.args.sink.now c.flush-in-Err.new.sink) in
     rw exit.1 (λ text_of start same wrote.
     let kept = copied-kept _ _ _ _ _ _ _ _ _ _ _ (c.loop-reader.invariant.copied text_of start same wrote) c.in_ok-release.ensures.ok in
     fault-failed _ _ _ (around start) _ _ _ _ _ _ kept next (rose-after _ _ _ later c.in_err-flush-in-Err.ensures.cause.failed) c.in_err-flush-in-Err.ensures.err)
@@ -92,7 +92,7 @@ pub returns-in-Err : goal.returns-in-Err
 returns-in-Err g c =
     let line = g.P.Parser.line c.next.new.self.parser in
     let next = next-fault _ _ _ _ _ _ _ c.in-Err.fault (ap (λ r. answer_of r line) c.in-Err.is) c.next.ensures.nexts in
-    let around : Option (List ℕ) → Seen = λ start. since start (seen g.R.Source.left g.R.Source.ended g.R.Source.faults g.W.Sink.held g.W.Sink.faults c.args.source.now c.next.new.source c.args.sink.now c.flush-in-Err.new.sink) in
+    let around : Option (List ℕ) → Seen = λ start. since start (seen g.R.Source.told g.R.Source.ended g.R.Source.faults g.W.Sink.held g.W.Sink.faults c.args.source.now c.next.new.source c.args.sink.now c.flush-in-Err.new.sink) in
     rw c.from.ensures (λ text_of start same wrote.
     let kept = copied-kept _ _ _ _ _ _ _ _ _ _ _ (c.loop-reader.invariant.copied text_of start same wrote) c.in_ok-release.ensures.ok in
     copied-fault _ _ _ (around start) _ _ _ _ _ c.in-Err.fault kept next

@@ -7,7 +7,7 @@ use Rattle.pcs_drive.proofs.LineDriving.{Kept}
 use Rattle.pcs_drive.proofs.line_driver.convert_lines.Given as goal
 
 abbrev pub invariant-loop-reader : goal.invariant-loop-reader
-invariant-loop-reader g l = let task = g.T.LineTask in let parser = g.P.Parser in let left = g.R.Source.left in let held = g.W.Sink.held in
+invariant-loop-reader g l = let task = g.T.LineTask in let parser = g.P.Parser in let left = g.R.Source.told in let held = g.W.Sink.held in
     record {
       copied : (text_of : List parser.Item → List ℕ) (start : Option (List ℕ)) → IsTextOf task.text parser.line text_of
           → Wrote start (held l.fn.sink) (text_of []) l.fn.output

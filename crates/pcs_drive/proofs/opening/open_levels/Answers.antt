@@ -13,5 +13,5 @@ returns-in-Ok-levels_header-clause-ok g c =
 pub returns-in-Err-levels_header-clause-err : goal.returns-in-Err-levels_header-clause-err
 returns-in-Err-levels_header-clause-err g c = λ text held writes.
     let told = c.in-Err-levels_header.ensures.answers (opened (2 ^ 40)) c.in-Ok.ensures.stands in
-    let around = reads_only g.R.Source.left g.R.Source.ended g.R.Source.faults c.args.source.now c.levels_header.new.source held writes in
+    let around = reads_only g.R.Source.told g.R.Source.ended g.R.Source.faults c.args.source.now c.levels_header.new.source held writes in
     rw c.from.ensures (levels-refused text around told.0 c.in-Err-levels_header.fault told.1 (λ read. c.in-Err-levels_header.ensures.read (ap (λ f. Err f) read)) refl)

@@ -10,7 +10,7 @@ returns-in_err-behind-clause-answers g c =
     let version : is_version2 c.in_ok-front.front ≡ true = sym c.is_version2.ensures ∙ c.if-not-is_version2.false in
     rw (exit.1, exit.2) (
       c.read_piece.new.reader,
-      g.S.Source.left c.read_piece.new.source,
+      g.S.Source.told c.read_piece.new.source,
       g.S.Source.ended c.read_piece.new.source,
       Ok c.in_ok-front.front,
       c.in_ok-front.ensures.answers,
@@ -21,7 +21,7 @@ pub returns-clause-answers : goal.returns-clause-answers
 returns-clause-answers g c =
     let version : is_version2 c.in_ok-front.front ≡ true = sym c.is_version2.ensures ∙ c.if-not-is_version2.false in (
       c.read_piece.new.reader,
-      g.S.Source.left c.read_piece.new.source,
+      g.S.Source.told c.read_piece.new.source,
       g.S.Source.ended c.read_piece.new.source,
       Ok c.in_ok-front.front,
       c.in_ok-front.ensures.answers,

@@ -9,7 +9,7 @@ returns-in_err-behind-clause-answers g c =
     let exit = err_from_is_err_and c.from_residual-in_err-behind.result c.from_residual-in_err-behind.ensures.1 in
     rw (exit.1, exit.2) (
       c.read_piece.new.reader,
-      g.S.Source.left c.read_piece.new.source,
+      g.S.Source.told c.read_piece.new.source,
       g.S.Source.ended c.read_piece.new.source,
       Ok c.in_ok-front.front,
       c.in_ok-front.ensures.answers,
@@ -19,7 +19,7 @@ returns-in_err-behind-clause-answers g c =
 pub returns-in-Ok-clause-answers : goal.returns-in-Ok-clause-answers
 returns-in-Ok-clause-answers g c = (
   c.read_piece.new.reader,
-  g.S.Source.left c.read_piece.new.source,
+  g.S.Source.told c.read_piece.new.source,
   g.S.Source.ended c.read_piece.new.source,
   Ok c.in_ok-front.front,
   c.in_ok-front.ensures.answers,
@@ -33,7 +33,7 @@ returns-in-Ok-clause-answers g c = (
 pub returns-in-Err-clause-answers : goal.returns-in-Err-clause-answers
 returns-in-Err-clause-answers g c = (
   c.read_piece.new.reader,
-  g.S.Source.left c.read_piece.new.source,
+  g.S.Source.told c.read_piece.new.source,
   g.S.Source.ended c.read_piece.new.source,
   Ok c.in_ok-front.front,
   c.in_ok-front.ensures.answers,

@@ -4,7 +4,7 @@ use Rattle.pcs_late.proofs.Unpacked.{Unpacking}
 use Rattle.pcs_late.proofs.unpacker.convert.Given as goal
 
 abbrev pub invariant-loop-reader : goal.invariant-loop-reader
-invariant-loop-reader g l = let left = g.R.Source.left in let held = g.W.Sink.held in
+invariant-loop-reader g l = let left = g.R.Source.told in let held = g.W.Sink.held in
     record {
       unpacking : Unpacking l.gap l.fn.reader.short l.reader (left l.fn.source) (left l.source) (held l.fn.sink) (held l.sink) l.output;
       some : IsSome l.reader.order;

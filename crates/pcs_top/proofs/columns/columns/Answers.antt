@@ -15,9 +15,9 @@ returns-in-Ok-open g c =
     let o = c.in-Ok.ensures.ok in
     let start = g.W.Sink.held c.args.sink.now in
     let listening = c.new-listening.result in
-    let around = seen g.R.Source.left g.R.Source.ended g.R.Source.faults g.W.Sink.held g.W.Sink.faults
+    let around = seen g.R.Source.told g.R.Source.ended g.R.Source.faults g.W.Sink.held g.W.Sink.faults
     c.args.source.now c.drive.new.source c.args.sink.now c.drive.new.sink in
-    let later = seen g.R.Source.left g.R.Source.ended g.R.Source.faults g.W.Sink.held g.W.Sink.faults
+    let later = seen g.R.Source.told g.R.Source.ended g.R.Source.faults g.W.Sink.held g.W.Sink.faults
     c.open_capture.new.source c.drive.new.source c.args.sink.now c.drive.new.sink in
     let fresh = subst (λ x. HasBegun x header.period skew true) (sym c.new-listening.ensures.receiver)
     (record { stands = c.in-Ok-open.ensures.stands; drained = c.in-Ok-open.ensures.drained; none = c.in-Ok-open.ensures.beats }) in

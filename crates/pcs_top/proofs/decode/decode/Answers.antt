@@ -11,9 +11,9 @@ returns-in-Ok-open g c =
     let limit = c.args.limit in
     let header = c.in-Ok.header in
     let o = c.in-Ok.ensures.ok in
-    let around = seen g.R.Source.left g.R.Source.ended g.R.Source.faults g.W.Sink.held g.W.Sink.faults
+    let around = seen g.R.Source.told g.R.Source.ended g.R.Source.faults g.W.Sink.held g.W.Sink.faults
     c.args.source.now c.decode_opened.new.source c.args.sink.now c.decode_opened.new.sink in
-    let later = seen g.R.Source.left g.R.Source.ended g.R.Source.faults g.W.Sink.held g.W.Sink.faults
+    let later = seen g.R.Source.told g.R.Source.ended g.R.Source.faults g.W.Sink.held g.W.Sink.faults
     c.open_capture.new.source c.decode_opened.new.source c.args.sink.now c.decode_opened.new.sink in
     let behind = c.decode_opened.ensures.answers o.history header header.period c.min-skew.result o.has
     (record { stands = c.in-Ok-open.ensures.stands; drained = c.in-Ok-open.ensures.drained; none = c.in-Ok-open.ensures.beats }) in (
@@ -25,7 +25,7 @@ returns-in-Ok-open g c =
 
 pub returns-in-Ok : goal.returns-in-Ok
 returns-in-Ok g c =
-    let around = seen g.R.Source.left g.R.Source.ended g.R.Source.faults g.W.Sink.held g.W.Sink.faults
+    let around = seen g.R.Source.told g.R.Source.ended g.R.Source.faults g.W.Sink.held g.W.Sink.faults
     c.args.source.now c.open_capture.new.source c.args.sink.now c.args.sink.now in
     (NoMemory, refl, no-memory-opened (decoded c.args.limit) around c.in-Ok.beats c.in-Ok.header c.in-Ok.ensures.ok refl)
 

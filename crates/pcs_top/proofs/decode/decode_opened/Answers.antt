@@ -12,7 +12,7 @@ use Rattle.pcs_top.proofs.decode.decode_opened.Goals as goal
 
 pub returns : goal.returns
 returns g c =
-    let around = seen g.R.Source.left g.R.Source.ended g.R.Source.faults g.W.Sink.held g.W.Sink.faults
+    let around = seen g.R.Source.told g.R.Source.ended g.R.Source.faults g.W.Sink.held g.W.Sink.faults
     c.args.source.now c.drive.new.source c.args.sink.now c.drive.new.sink in
     let answers : (h : History) (header : Header) (period skew : ℕ) → HasHeader c.args.beats.now h header → HasBegun c.args.receiver.now period skew false
     → ByOutcome (FromBeats (good_text period skew) h.octets h.limit header around) c.from.result = λ h header period skew has begun.

@@ -12,7 +12,7 @@ returns-in-Ok g c =
     let header = c.in-Ok.header in
     let o = c.in-Ok.ensures.ok in
     let start = g.W.Sink.held c.args.sink.now in
-    let around = seen g.R.Source.left g.R.Source.ended g.R.Source.faults g.W.Sink.held g.W.Sink.faults
+    let around = seen g.R.Source.told g.R.Source.ended g.R.Source.faults g.W.Sink.held g.W.Sink.faults
     c.args.source.now c.drive.new.source c.args.sink.now c.drive.new.sink in
     capture-answered (migrated skew) around c.in-Ok.beats header _ _ c.drive.result o c.open_capture.ensures.later
     (c.drive.ensures.captures o.history header (migrated skew header) start o.has (record {

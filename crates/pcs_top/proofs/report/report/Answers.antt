@@ -17,9 +17,9 @@ returns-in-Ok-open g c =
     let o = c.in-Ok.ensures.ok in
     let start = g.W.Sink.held c.args.sink.now in
     let listening = c.new-listening.result in
-    let around = seen g.R.Source.left g.R.Source.ended g.R.Source.faults g.W.Sink.held g.W.Sink.faults
+    let around = seen g.R.Source.told g.R.Source.ended g.R.Source.faults g.W.Sink.held g.W.Sink.faults
     c.args.source.now c.drive.new.source c.args.sink.now c.drive.new.sink in
-    let later = seen g.R.Source.left g.R.Source.ended g.R.Source.faults g.W.Sink.held g.W.Sink.faults
+    let later = seen g.R.Source.told g.R.Source.ended g.R.Source.faults g.W.Sink.held g.W.Sink.faults
     c.open_capture.new.source c.drive.new.source c.args.sink.now c.drive.new.sink in
     let fresh = subst (λ x. HasBegun x header.period skew false) (sym c.new-listening.ensures.receiver)
     (record { stands = c.in-Ok-open.ensures.stands; drained = c.in-Ok-open.ensures.drained; none = c.in-Ok-open.ensures.beats }) in
@@ -35,7 +35,7 @@ returns-in-Ok-open g c =
 pub returns-in-Err-open : goal.returns-in-Err-open
 returns-in-Err-open g c =
     let first = seen_all c.args.watchers.items (λ w. let m = goal.Watcher-dyn g (w.vtable, w.value) in watched m.label m.tally m.after m.leaves w.value) in
-    let around = seen g.R.Source.left g.R.Source.ended g.R.Source.faults g.W.Sink.held g.W.Sink.faults
+    let around = seen g.R.Source.told g.R.Source.ended g.R.Source.faults g.W.Sink.held g.W.Sink.faults
     c.args.source.now c.open_capture.new.source c.args.sink.now c.args.sink.now in
     no-memory-opened (reported first c.args.limit) around c.in-Ok.beats c.in-Ok.header c.in-Ok.ensures.ok refl
 

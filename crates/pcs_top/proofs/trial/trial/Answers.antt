@@ -25,4 +25,4 @@ returns-in-Ok g c = λ left ended reads. (
 )
 
 pub returns : goal.returns
-returns g c = λ left ended reads. record { left = refl; held = refl }
+returns g c = λ left ended reads. record { told = refl; held = refl }

@@ -1,0 +1,30 @@
+// A list of octets that only proofs read. It takes no memory, and its calls do nothing when they run.
+ghost use Rattle.std.specs.Prelude.{◌≡◌, ℕ, List, [], ◌++◌};
+ghost use Rattle.std.specs.Borrow.{ftrue};
+
+use std::marker::{Model, PhantomData};
+
+#[derive(Drop)]
+pub struct Ledger {
+    marker: PhantomData<u8>,
+    pub ghost octets: { List ℕ },
+}
+
+impl Model for Ledger {
+    ghost also_owns = { λ _. ftrue };
+}
+
+impl Ledger {
+    pub(crate) fn new() -> Ledger
+        ensures { result.octets ≡ [] }
+    {
+        Ledger {
+            marker: PhantomData,
+        }
+    }
+
+    /// Enters these octets after the others.
+    pub(crate) fn append(&mut self, _octets: &[u8])
+        ensures { self.new.octets ≡ self.old.octets ++ _octets.now }
+    {}
+}
