@@ -1,9 +1,10 @@
 #!/bin/bash
 # bench/hostile.sh [PROGRAM] [MEGABYTES]
 # Runs the built program as a process in hostile surroundings: streams that are closed, full or
-# abandoned, input that trickles, a limit on the address space, and long input under such a limit.
-# Looks that each run ends with its status and its line, prints a line for each kind of trial and what
-# differs, and ends with 1 where something does. MEGABYTES is how long the long input is, by default
+# abandoned, input that trickles, limits on the address space and on the stack, and long input under a
+# limit. Looks that each run ends with its status and its line, or, where a limit leaves no stack, by a
+# signal with nothing written. Prints a line for each kind of trial and what differs, and ends with 1
+# where something does. MEGABYTES is how long the long input is, by default
 # 200; 4096 takes some minutes.
 set -u
 cd "$(dirname "$0")/.."
@@ -121,36 +122,63 @@ look 'a line while the input goes on' 6 'pcs: line 2: no end' $?
 [ "$answer" = '10 78555555555555d5' ] || { differ=$((differ + 1)); echo "no answer while the input goes on"; }
 tell 'input that trickles'
 
-# Limits on the address space, from too little for the loader on: then status 5 and nothing written,
-# and then what ample memory gives. The receiver of a capture with the period 4096 asks for most.
+# Runs a command under a limit and looks at how it ends. Where there is too little for the loader, the
+# limit doesn't count. Above that it ends with status 5 where memory is refused, or by a signal where
+# the stack can't grow, and nothing is written; and from some limit on as it does without one.
+wanted_of() {
+    wanted=0
+    "$program" $words < "$work/$input" > "$work/whole" 2> "$work/wanted_notes" || wanted=$?
+    started=no fine=no refused=0 killed=0
+}
+under() {
+    local flag=$1 kilobytes=$2 status=0 line='pcs: no memory'
+    # What the shell says of a program that was killed isn't shown.
+    { (ulimit "$flag" "$kilobytes"; exec "$program" $words < "$work/$input" > "$work/out" 2> "$work/notes"); } 2> "$work/shell" || status=$?
+    if [ "$started" = no ] && [ "$status" -gt 12 ] && [ "$status" != 139 ]; then
+        return
+    fi
+    started=yes
+    if [ "$fine" = no ] && [ "$status" = 139 ]; then
+        killed=$kilobytes
+        look "ulimit $flag $kilobytes, $words" 139 '' 139 no_output
+    elif [ "$fine" = no ] && [ "$status" = 5 ]; then
+        refused=$kilobytes
+        # Without memory for its own words the program says nothing.
+        [ -s "$work/notes" ] || line=
+        look "ulimit $flag $kilobytes, $words" 5 "$line" 5 no_output
+    else
+        fine=yes
+        look "ulimit $flag $kilobytes, $words" "$wanted" "$(cat "$work/wanted_notes")" "$status" same_output
+    fi
+}
+
+# Limits on the address space. The receiver of a capture with the period 4096 asks for most. Just above
+# what the loader needs the stack can't grow, so there the steps are of 20 kB.
 "$program" encode --lead 0 --tail 0 < /dev/null > "$work/header"
 for row in "${commands[@]}" "header decode" "header report" "header columns"; do
     read -r input words <<< "$row"
-    wanted=0
-    "$program" $words < "$work/$input" > "$work/whole" 2> "$work/wanted_notes" || wanted=$?
-    started=no
-    refused=0
-    for kilobytes in 1000 2000 3000 4000 5000 6000 8000 10000 12000 16000 24000 32000 48000 64000 96000 128000 192000; do
-        status=0
-        # What the shell says of a loader that was aborted isn't shown.
-        { (ulimit -v "$kilobytes"; exec "$program" $words < "$work/$input" > "$work/out" 2> "$work/notes"); } 2> "$work/shell" || status=$?
-        if [ "$started" = no ] && [ "$status" -gt 12 ]; then
-            continue
-        fi
-        started=yes
-        if [ "$status" = 5 ]; then
-            refused=$kilobytes
-            # Without memory for its own words the program says nothing.
-            line='pcs: no memory'
-            [ -s "$work/notes" ] || line=
-            look "$kilobytes kB, $words" 5 "$line" 5 no_output
-        else
-            look "$kilobytes kB, $words" "$wanted" "$(cat "$work/wanted_notes")" "$status" same_output
-        fi
+    wanted_of
+    for kilobytes in 1000 2000 $(seq 2900 20 3300) 4000 5000 6000 8000 10000 12000 16000 24000 32000 48000 64000 96000 128000 192000; do
+        under -v "$kilobytes"
     done
     [ "$refused" = 0 ] || echo "  $words on $input: status 5 up to $refused kB"
 done
 tell 'little address space'
+
+# Limits on the stack, in steps of 20 kB: 256 kB are enough for each command.
+most=0
+for row in "${commands[@]}" "header decode" "header report" "header columns"; do
+    read -r input words <<< "$row"
+    wanted_of
+    for kilobytes in $(seq 20 20 400); do
+        under -s "$kilobytes"
+    done
+    [ "$killed" -le "$most" ] || most=$killed
+    [ "$fine" = yes ] || { differ=$((differ + 1)); echo "$words: 400 kB of stack aren't enough"; }
+done
+[ "$most" -lt 240 ] || { differ=$((differ + 1)); echo "a stack of $most kB isn't enough"; }
+echo "  a stack of $most kB isn't enough for some command, one of $((most + 20)) kB is for each"
+tell 'little stack'
 
 # No options of `encode` bring want of memory: each lead and each tail at each of some periods.
 for period in 1 3 4095 4096; do
