@@ -12,8 +12,8 @@ use pcs_watch::Report;
 use rs_decode::correct;
 use symbol_deal::{Codewords, from_codewords, split_rows, to_rows};
 
-// The words of a pair, each replaced by the codeword near it where there is one, and in how many
-// places that differed.
+/// The words of a pair, each replaced by the codeword near it where there is one, and in how many
+/// places that differed.
 #[derive(Drop)]
 pub struct Corrected {
     pub words: Codewords,
@@ -22,7 +22,7 @@ pub struct Corrected {
 }
 
 impl Corrected {
-    // Words of zeros.
+    /// Words of zeros.
     pub fn new() -> Corrected {
         let words = Codewords {
             a: [Gf::low(0); 544],
@@ -36,7 +36,7 @@ impl Corrected {
     }
 }
 
-// Replaces the words by those of a pair, corrected.
+/// Replaces the words by those of a pair, corrected. A pair is 68 rows of sixteen symbols, by lane number.
 pub fn correct_pair(rows: &[[Gf; 16]; 68], corrected: &mut Corrected)
     ensures { IsCorrectionOf rows.now corrected.new.words.a corrected.new.words.b corrected.new.near_a corrected.new.near_b }
 {
@@ -45,7 +45,7 @@ pub fn correct_pair(rows: &[[Gf; 16]; 68], corrected: &mut Corrected)
     corrected.near_b = correct(&mut corrected.words.b);
 }
 
-// The report of a pair, from its rows and its words.
+/// The report of a pair with this number, from its rows and its words.
 pub fn report(number: u64, rows: &[[Gf; 16]; 68], corrected: &Corrected) -> Report
     requires { IsCorrectionOf rows.now corrected.now.words.a corrected.now.words.b corrected.now.near_a corrected.now.near_b }
     ensures { result ≡ report_of number rows.now }
@@ -113,8 +113,8 @@ fn number_in(row: &[Gf; 16], lane: usize) -> u16
     row[lane].value()
 }
 
-// Replaces the wides by the forty that a pair carries: those of the messages of its codewords, or
-// zeros where a word has no codeword near it.
+/// Replaces the wides by the forty that a pair carries: those of the messages of its codewords, or
+/// zeros where a word has no codeword near it. The first one travels first.
 pub fn put_wides(wides: &mut [Wide; 40], rows: &[[Gf; 16]; 68], corrected: &Corrected)
     requires { IsCorrectionOf rows.now corrected.now.words.a corrected.now.words.b corrected.now.near_a corrected.now.near_b }
     ensures bits { flat wides.new ≡ bits_of_pair rows.now }
@@ -128,7 +128,7 @@ pub fn put_wides(wides: &mut [Wide; 40], rows: &[[Gf; 16]; 68], corrected: &Corr
     }
 }
 
-// Whether both words have a codeword near them.
+/// Whether both words have a codeword near them.
 #[inline]
 pub fn are_near(near_a: Option<u8>, near_b: Option<u8>) -> bool
     ensures { result ≡ (is_some near_a && is_some near_b) }
