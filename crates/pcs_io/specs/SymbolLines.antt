@@ -34,11 +34,10 @@ symbols_at digits (x ∷ xs) =
 abbrev pub symbol_line_at : List ℕ → LineAt (List ℕ)
 symbol_line_at octets = symbols_at [] octets
 
--- the digits so far, the numbers of the line that was read last, and how much memory there is
+-- the digits so far and the numbers of the line that was read last
 pub record SymbolParserState : Type 0 where
   pub digits : List ℕ
   pub numbers : List ℕ
-  pub room : List ℕ
 
 pub nothing_at : (digits : List ℕ) → symbols_at digits [] ≡ Open
 nothing_at digits = refl

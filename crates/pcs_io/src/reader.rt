@@ -34,7 +34,7 @@ impl<P: Parser + Drop> Model for Reader<P> {
 
     ghost Value = { ReaderState P };
 
-    ghost view = { λ s. record { buffer = s.input; parser = s.parser; lines = s.lines; standing = s.standing; room = P.room s.parser } };
+    ghost view = { λ s. record { buffer = s.input; parser = s.parser; lines = s.lines; standing = s.standing } };
 
     ghost invariant = { λ s. (s.lines + length s.input.unused ≤ s.input.taken) × (s.input.taken ≤ s.input.limit) × (s.input.limit < 2 ^ 64) };
 }
@@ -137,7 +137,6 @@ impl<P: Parser + Drop> Reader<P> {
     // The same, by its state alone.
     fn advance<S: Source>(&mut self, source: &mut S) -> Result<bool, InFault>
         ensures calls { Calls P.line_at self.old.standing self.old self.new (S.told source.old) (S.told source.new) (S.ended source.new) (P.line self.new.parser) result }
-        ensures room { self.new.room ≡ self.old.room }
         ensures later { S.faults source.old ≤ S.faults source.new }
         ensures read { IsErrOf result InFault.Read → (Rose (S.faults source.old) (S.faults source.new)) ⊎ (self.old.standing ≡ Standing.Failed InFault.Read) }
     {
@@ -175,7 +174,6 @@ fn next_line<P: Parser, S: Source>(
     requires lines { lines + length input.old.unused ≤ input.old.taken }
     ensures answers { FindsLine P.line_at lines input.old input.new (S.told source.old) (S.told source.new) (S.ended source.new) (P.line parser.new) result }
     ensures taken { input.new.taken ≤ input.new.limit }
-    ensures room { P.room parser.new ≡ P.room parser.old }
     ensures later { S.faults source.old ≤ S.faults source.new }
     ensures read { IsErrOf result InFault.Read → Rose (S.faults source.old) (S.faults source.new) }
 {
@@ -228,7 +226,6 @@ fn read_line<P: Parser, S: Source>(
         (Finds P.line_at input.old input.new (S.told source.old) (S.told source.new) (S.ended source.new) (P.line parser.new))
         (λ _. FailsOpen P.line_at input.old input.new (S.told source.old) (S.told source.new)) }
     ensures taken { input.new.taken ≤ input.new.limit }
-    ensures room { P.room parser.new ≡ P.room parser.old }
     ensures cause { HasCause (S.faults source.old) (S.faults source.new) result }
 {
     parser.restart();
@@ -252,7 +249,6 @@ fn read_line<P: Parser, S: Source>(
 fn take_ready<P: Parser>(input: &mut InputBuffer, parser: &mut P) -> Step
     requires { 0 < length input.old.unused }
     ensures stepped { Stepped input.old input.new (P.ahead parser.old) (P.ahead parser.new) (P.line parser.new) result }
-    ensures room { P.room parser.new ≡ P.room parser.old }
 {
     let taken = parser.take(input.unused());
     input.advance(taken.used);

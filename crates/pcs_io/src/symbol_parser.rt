@@ -1,5 +1,5 @@
 // The parser of symbol lines: three hexadecimal digits for each symbol, and a newline.
-ghost use Rattle.std.specs.Prelude.{◌≡◌, ◌<◌, ◌≤◌, ◌+◌, ◌∷◌, [], ℕ, List, IsTrue, length, take, drop, vec_len, vec_capacity, IfSome};
+ghost use Rattle.std.specs.Prelude.{◌≡◌, ◌<◌, ◌+◌, ◌∷◌, [], ℕ, List, IsTrue, length, take, drop, IfSome};
 ghost use Rattle.std.specs.Char.{digit_value};
 ghost use Rattle.pcs_io.specs.Grammars.{Line};
 ghost use Rattle.pcs_io.specs.Parsing.{comes_after};
@@ -8,6 +8,7 @@ ghost use Rattle.pcs_io.specs.SymbolLines.{symbol_line_at, symbols_at, numbers_o
 
 use crate::Kind;
 use crate::parser::{Parser, Step, Taken};
+use arrayvec::ArrayVec;
 use memchr::memchr;
 use std::alloc::{AllocError, Global};
 use std::marker::Model;
@@ -20,32 +21,33 @@ const FEWEST: usize = 514;
 // The digits of a symbol.
 const EACH: usize = 3;
 
+const MOST_DIGITS: usize = EACH * MOST;
+
 /// The parser of symbol lines. It has room for the longest line.
 #[derive(Drop)]
 pub struct SymbolParser {
-    digits: Vec<u8>,
-    symbols: Vec<u16>,
+    digits: Box<ArrayVec<u8, MOST_DIGITS>>,
+    symbols: Box<[u16; MOST]>,
     count: usize,
 }
 
 impl Model for SymbolParser {
-    ghost use Rattle.std.specs.Prelude.{◌≡◌, ◌≤◌, true, [], ◌∷◌, take, vec_len, vec_capacity};
+    ghost use Rattle.std.specs.Prelude.{◌≡◌, true, length, take};
     ghost use Rattle.pcs_io.specs.SymbolAnswers.{is_count};
     ghost use Rattle.pcs_io.specs.SymbolLines.{SymbolParserState, AreSymbolDigits, AreSmall};
 
     ghost Value = { SymbolParserState };
 
-    ghost view = { λ s. record { digits = s.digits.items; numbers = take s.count s.symbols.items; room = vec_capacity s.digits ∷ vec_capacity s.symbols ∷ [] } };
+    ghost view = { λ s. record { digits = s.digits.value.items; numbers = take s.count s.symbols.value } };
 
-    ghost invariant = { λ s. (1584 ≤ vec_capacity s.digits) × (vec_len s.digits ≤ 1584) × AreSymbolDigits s.digits.items
-        × (vec_len s.symbols ≡ 528) × AreSmall s.symbols.items × (is_count s.count ≡ true) };
+    ghost invariant = { λ s. AreSymbolDigits s.digits.value.items × (length s.symbols.value ≡ 528) × AreSmall s.symbols.value × (is_count s.count ≡ true) };
 }
 
 impl SymbolParser {
     pub fn open(alloc: Global) -> Result<Self, AllocError> {
         Ok(SymbolParser {
-            digits: Vec::with_capacity(alloc, EACH * MOST)?,
-            symbols: vec![in alloc; 0; MOST]?,
+            digits: Box::new(alloc, ArrayVec::new())?,
+            symbols: Box::new(alloc, [0; MOST])?,
             count: FEWEST,
         })
     }
@@ -77,8 +79,6 @@ impl Parser for SymbolParser {
 
     ghost line = { λ p. p.numbers };
 
-    ghost room = { λ p. p.room };
-
     fn restart(&mut self) {
         self.digits.clear();
     }
@@ -87,7 +87,7 @@ impl Parser for SymbolParser {
         let step = match symbol_step(&mut self.digits, octets[0]) {
             Step::More => Step::More,
             Step::Whole => {
-                self.count = decode_symbols(&self.digits, &mut self.symbols);
+                self.count = decode_symbols(self.digits.as_slice(), &mut self.symbols[..]);
                 Step::Whole
             }
             Step::Refuse(kind) => Step::Refuse(kind),
@@ -97,21 +97,17 @@ impl Parser for SymbolParser {
 
     fn quick(&mut self, octets: &[u8]) -> Option<usize> {
         let digits = digits_in_front(octets)?;
-        self.count = decode_symbols(&octets[..digits], &mut self.symbols);
+        self.count = decode_symbols(&octets[..digits], &mut self.symbols[..]);
         Some(digits + 1)
     }
 }
 
 // One more octet of a line.
-fn symbol_step(digits: &mut Vec<u8>, octet: u8) -> Step
-    requires room { 1584 ≤ vec_capacity digits.old }
-    requires within { vec_len digits.old ≤ 1584 }
+fn symbol_step(digits: &mut ArrayVec<u8, MOST_DIGITS>, octet: u8) -> Step
     requires right { AreSymbolDigits digits.old.items }
     ensures step { (rest : List ℕ) → symbols_at digits.old.items (octet ∷ rest)
         ≡ comes_after (symbols_at digits.new.items) (numbers_of digits.new.items) result rest }
-    ensures whole { result ≡ Step.Whole → IsTrue (is_width (vec_len digits.new)) }
-    ensures room { vec_capacity digits.new ≡ vec_capacity digits.old }
-    ensures within { vec_len digits.new ≤ 1584 }
+    ensures whole { result ≡ Step.Whole → IsTrue (is_width (length digits.new.items)) }
     ensures right { AreSymbolDigits digits.new.items }
 {
     if octet == b'\n' {
@@ -121,7 +117,7 @@ fn symbol_step(digits: &mut Vec<u8>, octet: u8) -> Step
             Step::Refuse(Kind::BadWidth)
         };
     }
-    if digits.len() == EACH * MOST {
+    if digits.is_full() {
         return Step::Refuse(Kind::BadWidth);
     }
     if !(octet as char).is_digit(16) {
@@ -130,7 +126,7 @@ fn symbol_step(digits: &mut Vec<u8>, octet: u8) -> Step
     if digits.len() % EACH == 0 && value_of(octet) > 3 {
         return Step::Refuse(Kind::Symbol);
     }
-    digits.push_reserved(octet);
+    digits.push(octet);
     Step::More
 }
 
