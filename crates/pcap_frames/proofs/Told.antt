@@ -179,7 +179,6 @@ nexts order old new before now ended r is k a most = record {
   history = λ h o s e. told-at old.standing o old new h before now ended r most s e (stands-at old h o s e) k (a o e);
   order = k.order;
   nearer = nearer-at old.standing order old new before now ended r (a order is);
-  room = k.room;
 }
 
 pub some-order : (o : Option Order) → IsSome o → (order : Order) × (o ≡ Some order)

@@ -1,11 +1,12 @@
 // The header and one record of a pcap file, read from the input.
-ghost use Rattle.std.specs.Prelude.{◌≡◌, ◌<◌, ◌≤◌, ◌+◌, ◌-◌, ◌^◌, ℕ, length, vec_capacity, IsErrOf, IfOk, MatchResult};
+ghost use Rattle.std.specs.Prelude.{◌≡◌, ◌<◌, ◌≤◌, ◌+◌, ◌-◌, ◌^◌, ℕ, length, IsErrOf, IfOk, MatchResult};
 ghost use Rattle.pcs_io.specs.Faults.{HasCause, Rose};
 ghost use Rattle.pcap_frames.specs.Pcap.{is_over, order_in, frame_length, record_at};
 ghost use Rattle.pcap_frames.specs.Finding.{FindsHeader, FindsRecord, Finds, FailsOpen};
 
 use crate::number::{Order, number, order_of};
 use crate::{PcapFault, RecordKind};
+use arrayvec::ArrayVec;
 use pcs_io::{BadHeader, Failed, Fill, InputBuffer, Source, gather};
 
 const HEADER: usize = 24;
@@ -13,6 +14,9 @@ const HEADER: usize = 24;
 const RECORD_HEADER: usize = 16;
 
 const MAX_FRAME: u32 = 16_384;
+
+/// A header, or the recorded octets of a frame.
+pub type Piece = ArrayVec<u8, 16_384>;
 
 /// What reading one record finds.
 #[derive(Clone, Copy)]
@@ -29,21 +33,19 @@ pub enum Found {
 /// Reads the header, and answers the order of its numbers.
 pub fn read_header<S: Source>(
     input: &mut InputBuffer,
-    piece: &mut Vec<u8>,
+    piece: &mut Piece,
     source: &mut S,
 ) -> Result<Order, PcapFault>
-    requires room { 24 ≤ vec_capacity piece.old }
     requires taken { input.old.taken ≤ input.old.limit }
     ensures finds { FindsHeader input.old input.new (S.told source.old) (S.told source.new) (S.ended source.new) result }
     ensures taken { input.new.taken ≤ input.new.limit }
     ensures limit { input.new.limit ≡ input.old.limit }
     ensures unused { (n : ℕ) → n + length input.old.unused ≤ input.old.taken → n + length input.new.unused ≤ input.new.taken }
-    ensures room { vec_capacity piece.new ≡ vec_capacity piece.old }
     ensures later { S.faults source.old ≤ S.faults source.new }
     ensures read { IsErrOf result PcapFault.Read → Rose (S.faults source.old) (S.faults source.new) }
 {
     match gather(input, piece, HEADER, source) {
-        Ok(Fill::Ready) => match order_in(piece) {
+        Ok(Fill::Ready) => match order_in(piece.as_slice()) {
             Ok(order) => Ok(order),
             Err(bad) => Err(PcapFault::BadHeader(bad)),
         },
@@ -80,19 +82,17 @@ fn order_in(octets: &[u8]) -> Result<Order, BadHeader>
 /// one.
 pub fn read_record<S: Source>(
     input: &mut InputBuffer,
-    piece: &mut Vec<u8>,
+    piece: &mut Piece,
     order: Order,
     short: bool,
     records: u64,
     source: &mut S,
 ) -> Result<bool, PcapFault>
-    requires room { 16384 ≤ vec_capacity piece.old }
     requires taken { input.old.taken ≤ input.old.limit }
     requires limit { input.old.limit < 2 ^ 64 }
     requires records { records + length input.old.unused ≤ input.old.taken }
     ensures finds { FindsRecord (record_at order short) records input.old input.new (S.told source.old) (S.told source.new) (S.ended source.new) piece.new.items result }
     ensures taken { input.new.taken ≤ input.new.limit }
-    ensures room { vec_capacity piece.new ≡ vec_capacity piece.old }
     ensures later { S.faults source.old ≤ S.faults source.new }
     ensures read { IsErrOf result PcapFault.Read → Rose (S.faults source.old) (S.faults source.new) }
 {
@@ -120,18 +120,16 @@ fn bad_record(records: u64, kind: RecordKind) -> PcapFault
 // Reads one record: its header, and then its recorded octets.
 fn find_record<S: Source>(
     input: &mut InputBuffer,
-    piece: &mut Vec<u8>,
+    piece: &mut Piece,
     order: Order,
     short: bool,
     source: &mut S,
 ) -> Result<Found, Failed>
-    requires room { 16384 ≤ vec_capacity piece.old }
     requires taken { input.old.taken ≤ input.old.limit }
     ensures finds { MatchResult result
         (Finds (record_at order short) input.old input.new (S.told source.old) (S.told source.new) (S.ended source.new) piece.new.items)
         (λ _. FailsOpen (record_at order short) input.old input.new (S.told source.old) (S.told source.new)) }
     ensures taken { input.new.taken ≤ input.new.limit }
-    ensures room { vec_capacity piece.new ≡ vec_capacity piece.old }
     ensures cause { HasCause (S.faults source.old) (S.faults source.new) result }
 {
     match gather(input, piece, RECORD_HEADER, source)? {
@@ -140,7 +138,7 @@ fn find_record<S: Source>(
         Fill::End => return Ok(Found::Cut),
         Fill::Limit => return Ok(Found::Limit),
     }
-    let count = match frame_length(order, short, piece) {
+    let count = match frame_length(order, short, piece.as_slice()) {
         Ok(count) => count,
         Err(kind) => return Ok(Found::Refuse(kind)),
     };

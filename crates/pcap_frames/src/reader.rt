@@ -3,13 +3,11 @@ ghost use Rattle.std.specs.Prelude.{◌≡◌, ◌≤◌, ◌⊎◌, true, Ok, l
 ghost use Rattle.pcs_io.specs.Faults.{Rose};
 
 use crate::PcapFault;
-use crate::finding::{holds_record, read_header, read_record};
+use crate::finding::{Piece, holds_record, read_header, read_record};
 use crate::number::Order;
 use pcs_io::{InputBuffer, Source};
 use std::alloc::{AllocError, Global};
 use std::marker::Model;
-
-const MAX_FRAME: usize = 16_384;
 
 /// Whether a reader goes on, or answers the end or a fault for ever.
 #[derive(Clone, Copy)]
@@ -23,7 +21,7 @@ pub enum Standing {
 #[derive(Drop)]
 pub struct PcapReader {
     input: InputBuffer,
-    piece: Vec<u8>,
+    piece: Box<Piece>,
     short: bool,
     order: Option<Order>,
     records: u64,
@@ -31,14 +29,14 @@ pub struct PcapReader {
 }
 
 impl Model for PcapReader {
-    ghost use Rattle.std.specs.Prelude.{◌≡◌, ◌≤◌, ◌<◌, ◌+◌, ◌^◌, length, vec_capacity};
+    ghost use Rattle.std.specs.Prelude.{◌≡◌, ◌≤◌, ◌<◌, ◌+◌, ◌^◌, length};
     ghost use Rattle.pcap_frames.specs.Histories.{PcapState};
 
     ghost Value = { PcapState };
 
-    ghost view = { λ s. record { buffer = s.input; piece = s.piece.items; short = s.short; order = s.order; records = s.records; standing = s.standing; room = vec_capacity s.piece } };
+    ghost view = { λ s. record { buffer = s.input; piece = s.piece.value.items; short = s.short; order = s.order; records = s.records; standing = s.standing } };
 
-    ghost invariant = { λ s. (16384 ≤ vec_capacity s.piece) × (s.records + length s.input.unused ≤ s.input.taken) × (s.input.taken ≤ s.input.limit) × (s.input.limit < 2 ^ 64) };
+    ghost invariant = { λ s. (s.records + length s.input.unused ≤ s.input.taken) × (s.input.taken ≤ s.input.limit) × (s.input.limit < 2 ^ 64) };
 }
 
 impl PcapReader {
@@ -58,7 +56,7 @@ impl PcapReader {
     {
         Ok(PcapReader {
             input: InputBuffer::open(alloc, limit)?,
-            piece: Vec::with_capacity(alloc, MAX_FRAME)?,
+            piece: Box::new(alloc, Piece::new())?,
             short,
             order: None,
             records: 0,
@@ -74,7 +72,6 @@ impl PcapReader {
             × HeaderAnswers h.limit got (S.told source.old) (S.told source.new) (S.ended source.new) result
             × Stands self.new (header_told h got result) }
         ensures order { IfOk result (λ _. IsSome self.new.order) }
-        ensures room { self.new.room ≡ self.old.room }
         ensures later { S.faults source.old ≤ S.faults source.new }
         ensures read { IsErrOf result PcapFault.Read → Rose (S.faults source.old) (S.faults source.new) }
     {
@@ -104,7 +101,7 @@ impl PcapReader {
         if !self.next_record(source)? {
             return Ok(None);
         }
-        Ok(Some(&self.piece))
+        Ok(Some(self.piece.as_slice()))
     }
 
     /// Whether a record is over or refused within the octets that were taken and are not answered, so
