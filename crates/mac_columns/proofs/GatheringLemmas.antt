@@ -45,81 +45,75 @@ open-more past Error = refl
 open-more past (Set o) = refl
 
 -- a frame that is open has the octets that are held
-pub is-open : (s : Stage) (octets : List ℕ) (room : ℕ) (g : Gathering) → gathering s octets room ≡ g → IsSome g.open_now
+pub is-open : (s : Stage) (octets : List ℕ) (g : Gathering) → gathering s octets ≡ g → IsSome g.open_now
     → (s ≡ stage.Open) × (g.open_now ≡ Some octets)
-is-open stage.Closed octets room g e some = absurd (let h : false ≡ true = rw (← e) at some in cc)
-is-open stage.Open octets room g e some = (refl, sym (ap (λ h. h.open_now) e))
-is-open stage.Whole octets room g e some = absurd (let h : false ≡ true = rw (← e) at some in cc)
-
--- the room is the one that is seen
-pub room-is : (s : Stage) (octets : List ℕ) (room : ℕ) (g : Gathering) → gathering s octets room ≡ g → g.room ≡ room
-room-is stage.Closed octets room g e = sym (ap (λ h. h.room) e)
-room-is stage.Open octets room g e = sym (ap (λ h. h.room) e)
-room-is stage.Whole octets room g e = sym (ap (λ h. h.room) e)
+is-open stage.Closed octets g e some = absurd (let h : false ≡ true = rw (← e) at some in cc)
+is-open stage.Open octets g e some = (refl, sym (ap (λ h. h.open_now) e))
+is-open stage.Whole octets g e some = absurd (let h : false ≡ true = rw (← e) at some in cc)
 
 -- a frame that the last column ended has the octets that are held
-pub is-ended : (s : Stage) (octets : List ℕ) (room : ℕ) (g : Gathering) → gathering s octets room ≡ g → HasFrame g → g.just_ended ≡ Some octets
+pub is-ended : (s : Stage) (octets : List ℕ) (g : Gathering) → gathering s octets ≡ g → HasFrame g → g.just_ended ≡ Some octets
 unfolding HasFrame
-is-ended stage.Closed octets room g e some = absurd (let h : false ≡ true = rw (← e) at some in cc)
-is-ended stage.Open octets room g e some = absurd (let h : false ≡ true = rw (← e) at some in cc)
-is-ended stage.Whole octets room g e some = sym (ap (λ h. h.just_ended) e)
+is-ended stage.Closed octets g e some = absurd (let h : false ≡ true = rw (← e) at some in cc)
+is-ended stage.Open octets g e some = absurd (let h : false ≡ true = rw (← e) at some in cc)
+is-ended stage.Whole octets g e some = sym (ap (λ h. h.just_ended) e)
 
 -- where a frame is open
-pub takes-data : (octets more : List ℕ) (room : ℕ) → is_within (octets ++ more) ≡ true
-    → Takes (Some octets) room (Data more) Nothing (gathering stage.Open (octets ++ more) room)
+pub takes-data : (octets more : List ℕ) → is_within (octets ++ more) ≡ true
+    → Takes (Some octets) (Data more) Nothing (gathering stage.Open (octets ++ more))
 unfolding outcome after
-takes-data octets more room fits = record { answers = rw fits refl; holds = rw fits refl }
+takes-data octets more fits = record { answers = rw fits refl; holds = rw fits refl }
 
-pub takes-end : (octets more : List ℕ) (room : ℕ) → is_within (octets ++ more) ≡ true
-    → Takes (Some octets) room (End more) Whole (gathering stage.Whole (octets ++ more) room)
+pub takes-end : (octets more : List ℕ) → is_within (octets ++ more) ≡ true
+    → Takes (Some octets) (End more) Whole (gathering stage.Whole (octets ++ more))
 unfolding outcome after
-takes-end octets more room fits = record { answers = rw fits refl; holds = rw fits refl }
+takes-end octets more fits = record { answers = rw fits refl; holds = rw fits refl }
 
-pub takes-long-data : (octets more : List ℕ) (room : ℕ) → is_within (octets ++ more) ≡ false
-    → Takes (Some octets) room (Data more) (Dropped why.Long) (gathering stage.Closed octets room)
+pub takes-long-data : (octets more : List ℕ) → is_within (octets ++ more) ≡ false
+    → Takes (Some octets) (Data more) (Dropped why.Long) (gathering stage.Closed octets)
 unfolding outcome after
-takes-long-data octets more room long = record { answers = rw long refl; holds = rw long refl }
+takes-long-data octets more long = record { answers = rw long refl; holds = rw long refl }
 
-pub takes-long-end : (octets more : List ℕ) (room : ℕ) → is_within (octets ++ more) ≡ false
-    → Takes (Some octets) room (End more) (Dropped why.Long) (gathering stage.Closed octets room)
+pub takes-long-end : (octets more : List ℕ) → is_within (octets ++ more) ≡ false
+    → Takes (Some octets) (End more) (Dropped why.Long) (gathering stage.Closed octets)
 unfolding outcome after
-takes-long-end octets more room long = record { answers = rw long refl; holds = rw long refl }
+takes-long-end octets more long = record { answers = rw long refl; holds = rw long refl }
 
-pub takes-start : (octets before s : List ℕ) (room : ℕ) → octets ≡ [] → Takes (Some before) room (Start s) (Dropped why.Start) (gathering stage.Open octets room)
+pub takes-start : (octets before s : List ℕ) → octets ≡ [] → Takes (Some before) (Start s) (Dropped why.Start) (gathering stage.Open octets)
 unfolding outcome after
-takes-start octets before s room empty = record { answers = refl; holds = rw empty refl }
+takes-start octets before s empty = record { answers = refl; holds = rw empty refl }
 
 -- where none is open
-none-open : (s : Stage) (octets : List ℕ) (room : ℕ) (g : Gathering) → gathering s octets room ≡ g → (s ≡ stage.Closed) ⊎ (s ≡ stage.Whole) → None ≡ g.open_now
-none-open s octets room g e (inl is) = ap (λ h. h.open_now) (rw is at e)
-none-open s octets room g e (inr is) = ap (λ h. h.open_now) (rw is at e)
+none-open : (s : Stage) (octets : List ℕ) (g : Gathering) → gathering s octets ≡ g → (s ≡ stage.Closed) ⊎ (s ≡ stage.Whole) → None ≡ g.open_now
+none-open s octets g e (inl is) = ap (λ h. h.open_now) (rw is at e)
+none-open s octets g e (inr is) = ap (λ h. h.open_now) (rw is at e)
 
-pub waits-start : (s : List ℕ) (room : ℕ) → gathering stage.Open [] room ≡ after None room (Start s)
+pub waits-start : (s : List ℕ) → gathering stage.Open [] ≡ after None (Start s)
 unfolding outcome after
-waits-start s room = refl
+waits-start s = refl
 
-pub waits-other : (column : Column) (room : ℕ) → ((s : List ℕ) → column ≡ Start s → ⊥) → gathering stage.Closed [] room ≡ after None room column
+pub waits-other : (column : Column) → ((s : List ℕ) → column ≡ Start s → ⊥) → gathering stage.Closed [] ≡ after None column
 unfolding outcome after
-waits-other (Start s) room other = absurd (other s refl)
-waits-other (Data octets) room other = refl
-waits-other (End octets) room other = refl
-waits-other Idle room other = refl
-waits-other Error room other = refl
-waits-other (Set o) room other = refl
+waits-other (Start s) other = absurd (other s refl)
+waits-other (Data octets) other = refl
+waits-other (End octets) other = refl
+waits-other Idle other = refl
+waits-other Error other = refl
+waits-other (Set o) other = refl
 
-pub takes-none : (s : Stage) (octets : List ℕ) (room : ℕ) (old now : Gathering) (column : Column) → gathering s octets room ≡ old
+pub takes-none : (s : Stage) (octets : List ℕ) (old now : Gathering) (column : Column) → gathering s octets ≡ old
     → (s ≡ stage.Closed) ⊎ (s ≡ stage.Whole)
-    → now ≡ after None old.room column → Takes old.open_now old.room column Nothing now
+    → now ≡ after None column → Takes old.open_now column Nothing now
 unfolding outcome
-takes-none s octets room old now column e closed is = rw (← none-open s octets room old e closed) (record { answers = refl; holds = is })
+takes-none s octets old now column e closed is = rw (← none-open s octets old e closed) (record { answers = refl; holds = is })
 
 -- from the column to the columns taken so far
-pub takes-answer : (old now : Gathering) (column : Column) (answer : Gathered) → Takes old.open_now old.room column answer now
+pub takes-answer : (old now : Gathering) (column : Column) (answer : Gathered) → Takes old.open_now column answer now
     → (past : List Column) → Stands old past → answer ≡ answer_of (outcome (open_frame past) column)
 unfolding Stands
 takes-answer old now column answer takes past stands = takes.answers ∙ ap (λ g. answer_of (outcome g.open_now column)) stands
 
-pub takes-stands : (old now : Gathering) (column : Column) (answer : Gathered) → Takes old.open_now old.room column answer now
+pub takes-stands : (old now : Gathering) (column : Column) (answer : Gathered) → Takes old.open_now column answer now
     → (past : List Column) → Stands old past → Stands now (column ∷ past)
 unfolding Stands after ended_frame
 takes-stands old now column answer takes past stands =
@@ -128,23 +122,18 @@ takes-stands old now column answer takes past stands =
     let ended : option_and_then frame_in (outcome old.open_now column) ≡ ended_frame (column ∷ past) =
     ap (λ g. option_and_then frame_in (outcome g.open_now column)) stands in
     takes.holds
-    ∙ ap (λ o. record { open_now = o; just_ended = option_and_then frame_in (outcome old.open_now column); room = old.room }) left
-    ∙ ap (λ o. record { open_now = open_frame (column ∷ past); just_ended = o; room = old.room }) ended
-    ∙ ap (λ r. record { open_now = open_frame (column ∷ past); just_ended = ended_frame (column ∷ past); room = r }) (sym (ap (λ g. g.room) takes.holds))
-
-pub takes-room : (old now : Gathering) (column : Column) (answer : Gathered) → Takes old.open_now old.room column answer now → now.room ≡ old.room
-unfolding after
-takes-room old now column answer takes = ap (λ g. g.room) takes.holds
+    ∙ ap (λ o. record { open_now = o; just_ended = option_and_then frame_in (outcome old.open_now column) }) left
+    ∙ ap (λ o. record { open_now = open_frame (column ∷ past); just_ended = o }) ended
 
 whole-has : (o : Option Outcome) → (answer_of o ≡ Whole) ↔ IsSome (option_and_then frame_in o)
 whole-has None = (λ e. absurd (cc), λ some. absurd (let h : false ≡ true = some in cc))
 whole-has (Some (whole octets)) = (λ e. refl, λ some. refl)
 whole-has (Some (dropped why)) = (λ e. absurd (cc), λ some. absurd (let h : false ≡ true = some in cc))
 
-pub takes-frame : (before : Option (List ℕ)) (room : ℕ) (column : Column) (answer : Gathered) (now : Gathering) → Takes before room column answer now
+pub takes-frame : (before : Option (List ℕ)) (column : Column) (answer : Gathered) (now : Gathering) → Takes before column answer now
     → (answer ≡ Whole) ↔ HasFrame now
 unfolding HasFrame after
-takes-frame before room column answer now takes = rw (takes.answers, takes.holds) (whole-has (outcome before column))
+takes-frame before column answer now takes = rw (takes.answers, takes.holds) (whole-has (outcome before column))
 
 -- where the answer isn't `Whole`, the column ended no frame
 no-frame-in : (o : Option Outcome) (answer : Gathered) → answer ≡ answer_of o → (answer ≡ Whole → ⊥) → option_and_then frame_in o ≡ None

@@ -1,13 +1,16 @@
 // The frames of columns, one column at a time.
-ghost use Rattle.std.specs.Prelude.{◌≡◌, ◌≤◌, ◌↔◌, List, [], ◌∷◌, length, Some, None, IfOk, IsSome};
+ghost use Rattle.std.specs.Prelude.{◌≡◌, ◌≤◌, ◌↔◌, List, [], ◌∷◌, ◌++◌, length, Some, None, IfOk, IsSome, if◌then◌else◌};
 ghost use Rattle.mac_columns.specs.declared.column.Column.{Column};
-ghost use Rattle.mac_columns.specs.Frames.{open_frame, outcome, ended_frame, answer_of};
+ghost use Rattle.mac_columns.specs.Frames.{open_frame, outcome, ended_frame, answer_of, is_within};
 ghost use Rattle.mac_columns.specs.Gathering.{HasFrame, Stands, Takes, after};
 
 use crate::Column;
-use crate::frame_buffer::FrameBuffer;
+use arrayvec::ArrayVec;
 use std::alloc::{AllocError, Global};
 use std::marker::Model;
+
+// The greatest number of octets of a frame.
+const MOST_OCTETS: usize = 16384;
 
 /// Why an open frame came to nothing.
 #[derive(Clone, Copy, Debug, PartialEq, Eq)]
@@ -45,7 +48,7 @@ enum Stage {
 /// Puts frames together from columns.
 #[derive(Drop)]
 pub struct Gather {
-    frame: FrameBuffer,
+    frame: Box<ArrayVec<u8, MOST_OCTETS>>,
     stage: Stage,
 }
 
@@ -54,12 +57,12 @@ impl Model for Gather {
 
     ghost Value = { Gathering };
 
-    ghost view = { λ g. gathering g.stage g.frame.octets g.frame.room };
+    ghost view = { λ g. gathering g.stage g.frame.value.items };
 }
 
 impl Gather {
-    /// A `Gather` that has taken no column. It reserves room for one frame, and no later call
-    /// takes memory.
+    /// A `Gather` that has taken no column. It has room for one frame, and no later call takes
+    /// memory.
     ///
     /// # Errors
     ///
@@ -68,7 +71,7 @@ impl Gather {
         ensures { IfOk result (λ gather. Stands gather []) }
     {
         Ok(Gather {
-            frame: FrameBuffer::open(alloc)?,
+            frame: Box::new(alloc, ArrayVec::new())?,
             stage: Stage::Closed,
         })
     }
@@ -80,7 +83,6 @@ impl Gather {
         ensures stands { (past : List Column) → Stands self.old past
             → Stands self.new (column.now ∷ past) }
         ensures frame { (result ≡ Gathered.Whole) ↔ HasFrame self.new }
-        ensures room { self.new.room ≡ self.old.room }
     {
         match self.stage {
             Stage::Open => self.go_on(column),
@@ -94,18 +96,18 @@ impl Gather {
     // Takes a column where a frame is open.
     fn go_on(&mut self, column: &Column) -> Gathered
         requires { IsSome self.old.open_now }
-        ensures { Takes self.old.open_now self.old.room column.now result self.new }
+        ensures { Takes self.old.open_now column.now result self.new }
     {
         match column {
             Column::Data(octets) => {
-                if self.frame.append(octets) {
+                if append(&mut self.frame, octets) {
                     return Gathered::Nothing;
                 }
                 self.stage = Stage::Closed;
                 Gathered::Dropped(Why::Long)
             }
             Column::End(tail) => {
-                if self.frame.append(tail.octets()) {
+                if append(&mut self.frame, tail.octets()) {
                     self.stage = Stage::Whole;
                     return Gathered::Whole;
                 }
@@ -133,7 +135,7 @@ impl Gather {
 
     // Takes a column where no frame is open.
     fn wait(&mut self, column: &Column)
-        ensures { self.new ≡ after None self.old.room column.now }
+        ensures { self.new ≡ after None column.now }
     {
         if let Column::Start(_) = column {
             self.frame.clear();
@@ -150,6 +152,15 @@ impl Gather {
             → ended_frame past ≡ Some result.now }
         ensures within { length result.now ≤ 16384 }
     {
-        self.frame.octets()
+        self.frame.as_slice()
     }
+}
+
+// Appends octets where a frame may have so many.
+#[inline]
+fn append(frame: &mut ArrayVec<u8, MOST_OCTETS>, more: &[u8]) -> bool
+    ensures fits { result ≡ is_within (frame.old.items ++ more.now) }
+    ensures octets { frame.new.items ≡ (if result then frame.old.items ++ more.now else frame.old.items) }
+{
+    frame.try_extend_from_slice(more).is_ok()
 }
