@@ -26,10 +26,10 @@ pub high_values : (rest high zeros_behind : List Symbol) (j : ℕ) → length re
 high_values rest high behind j long is none less =
     let x = power gf alpha j in
     sum_zero _ _ (
-      ap₂ (λ n v. sum_of (value gf rest x) (product_of (power gf x n) v)) (sym long)
-      (sym (laws.add_zero (value gf high x)) ∙ ap (sum_of (value gf high x)) (sym (mul_zero gf laws (power gf x (length high))) ∙ ap (product_of (power gf x (length high))) (sym (zeros behind x none)))
-      ∙ sym (value_append high behind x))
-      ∙ sym (value_append rest (high ++ behind) x) ∙ is.roots j less)
+    ap₂ (λ n v. sum_of (value gf rest x) (product_of (power gf x n) v)) (sym long)
+    (sym (laws.add_zero (value gf high x)) ∙ ap (sum_of (value gf high x)) (sym (mul_zero gf laws (power gf x (length high))) ∙ ap (product_of (power gf x (length high))) (sym (zeros behind x none)))
+    ∙ sym (value_append high behind x))
+    ∙ sym (value_append rest (high ++ behind) x) ∙ is.roots j less)
 
 module _ (F : Field) (L : Laws F) where
   open F use {carrier, add, mul, zero_element, one}
@@ -94,6 +94,6 @@ parity_rest_is register rest parity lr ls lp each =
     let b : length (take 14 rest) ≡ 14 = omega (arith, ls, length-take 14 rest) in
     ext_get_or zero_symbol parity (plus gf (drop 18 register) (take 14 rest)) (lp ∙ sym (length_plus gf laws (drop 18 register) (take 14 rest) (a ∙ sym b) ∙ a))
     (λ k l. let low : k < 14 = omega (arith, lp) in
-        let same : k + 18 ≡ 18 + k = omega arith in
-        each k low ∙ ap₂ sum_of (ap (λ n. get_or register n zero_symbol) same ∙ sym (get_or-drop 18 register k zero_symbol)) (sym (get_or-take 14 rest k zero_symbol low))
-        ∙ sym (plus_at gf laws (drop 18 register) (take 14 rest) k))
+    let same : k + 18 ≡ 18 + k = omega arith in
+    each k low ∙ ap₂ sum_of (ap (λ n. get_or register n zero_symbol) same ∙ sym (get_or-drop 18 register k zero_symbol)) (sym (get_or-take 14 rest k zero_symbol low))
+    ∙ sym (plus_at gf laws (drop 18 register) (take 14 rest) k))

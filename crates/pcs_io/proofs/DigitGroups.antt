@@ -77,8 +77,8 @@ decoded-places i (a ∷ b ∷ rest) (v ∷ vs) len digits octets =
     let pair : pair_value a b i ≡ Ok v = rw (va, vb, first) refl in
     let ih = decoded-places (i + 2) rest vs (omega (arith, len)) (λ k h. digits (suc (suc k)) (omega arith))
     (λ k h. let n : 2 * suc k ≡ suc (suc (2 * k)) = omega arith in
-        let m : suc (suc (2 * k)) + 1 ≡ suc (suc (2 * k + 1)) = omega arith in
-        rw (n, m) at (octets (suc k) (omega arith))) in
+    let m : suc (suc (2 * k)) + 1 ≡ suc (suc (2 * k + 1)) = omega arith in
+    rw (n, m) at (octets (suc k) (omega arith))) in
     decode_pairs-ok_pair i a b v rest pair ∙ ap (cons_byte v) ih
 
 -- ---- what a group says
@@ -120,10 +120,10 @@ few-decode s rest u n len few size e =
     decoded-places 0 s (take n u) (omega (arith, len, out))
     (λ k h. ap is_hex_digit (sym (get_or_append_left s rest 0 k h)) ∙ all-at is_hex_digit p r.0 k (omega (arith, size, len)))
     (λ k h. let low : k < n = omega (arith, out) in
-        let a = get_or_append_left s rest 0 (2 * k) (omega (arith, len)) in
-        let b = get_or_append_left s rest 0 (2 * k + 1) (omega (arith, len)) in
-        get_or-take n u k 0 low ∙ ap (λ v. get_or v k 0) r.1 ∙ by_index_at 16 (byte_of_digits p) k 0 (omega arith)
-        ∙ rw (← a, ← b) refl)
+    let a = get_or_append_left s rest 0 (2 * k) (omega (arith, len)) in
+    let b = get_or_append_left s rest 0 (2 * k + 1) (omega (arith, len)) in
+    get_or-take n u k 0 low ∙ ap (λ v. get_or v k 0) r.1 ∙ by_index_at 16 (byte_of_digits p) k 0 (omega arith)
+    ∙ rw (← a, ← b) refl)
 
 pub group-decodes : (s u : List ℕ) → length s ≡ 32 → Some u ≡ parsed s → decode_pairs 0 s ≡ Ok u
 group-decodes s u len e =

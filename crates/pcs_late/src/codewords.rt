@@ -36,13 +36,7 @@ pub fn kr_opened<R: Source, W: Sink>(
         (seen R.told R.ended R.faults W.held W.faults source.old source.new sink.old sink.new) result }
 {
     let mut output = Output::new();
-    drive_lines(
-        &mut lines.reader,
-        &mut Answering,
-        &mut output,
-        source,
-        sink,
-    )
+    drive_lines(&mut lines.reader, &mut Answering, &mut output, source, sink)
 }
 
 // The answer to each line.

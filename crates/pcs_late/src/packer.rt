@@ -26,13 +26,7 @@ pub fn pcap_write_opened<R: Source, W: Sink>(
         return Outcome::WriteFault;
     }
     let mut output = Output::new();
-    drive_lines(
-        &mut lines.reader,
-        &mut Packing,
-        &mut output,
-        source,
-        sink,
-    )
+    drive_lines(&mut lines.reader, &mut Packing, &mut output, source, sink)
 }
 
 // The record of each frame.

@@ -38,13 +38,7 @@ pub fn blocks_opened<R: Source, W: Sink>(lines: &mut Lines, source: &mut R, sink
         (seen R.told R.ended R.faults W.held W.faults source.old source.new sink.old sink.new) result }
 {
     let mut output = Output::new();
-    drive_lines(
-        &mut lines.reader,
-        &mut Blocking,
-        &mut output,
-        source,
-        sink,
-    )
+    drive_lines(&mut lines.reader, &mut Blocking, &mut output, source, sink)
 }
 
 // The block lines of each line's columns.

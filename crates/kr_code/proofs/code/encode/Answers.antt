@@ -16,6 +16,6 @@ returns-clause-coded c =
     let is = parity_rest_is register rest parity h.long c.high_rest-rest.ensures.size c.loop-k.invariant.long (λ k less. c.loop-k.invariant.each k (omega arith)) in
     let short : length (drop 18 register) ≡ 14 = omega (arith, h.long, length-drop 18 register) in
     let values = parity_values (drop 18 register) rest message short c.high_rest-rest.ensures.size c.told-message
-        (rest_of_register register _ h) c.high_rest-rest.ensures.values in
+    (rest_of_register register _ h) c.high_rest-rest.ensures.values in
     codeword_of_is 14 parity message c.loop-k.invariant.long (omega (arith, c.told-message))
     (rest_last 14 parity message c.loop-k.invariant.long (subst (λ p. IsRest 14 14 p message) (sym is) values))

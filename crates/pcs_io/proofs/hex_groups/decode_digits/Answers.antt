@@ -14,10 +14,11 @@ loop-i-preserved c =
     let new = c.decode_group.new.octets in
     let size = c.decode_group.auto.octets in
     let inv = c.loop-i.invariant in
-    let whole : 32 * i + 32 - 32 * i ≡ 32 = omega arith in
-    (search,
+    let whole : 32 * i + 32 - 32 * i ≡ 32 = omega arith in (
+      search,
       one-group-more c.args.digits.now (take (16 * i) c.loop-i.octets) _ new i (omega (arith, inv.0)) (ap (λ (n : ℕ). take n (drop (32 * i) c.args.digits.now)) whole) (c.decode_group.ensures c.if-not-decode_group.false) inv.1
-      ∙ ap Ok (sym (take-put_mid (16 * i) (16 * i + 16 - 16 * i) c.loop-i.octets new (16 * (i + 1)) (omega (arith, size)) (omega (arith, inv.0)))))
+          ∙ ap Ok (sym (take-put_mid (16 * i) (16 * i + 16 - 16 * i) c.loop-i.octets new (16 * (i + 1)) (omega (arith, size)) (omega (arith, inv.0)))),
+    )
 
 pub returns : goal.returns
 returns c = λ ok.
