@@ -1,0 +1,5 @@
+pub mod Blocks
+pub mod Columns
+pub mod Marker
+pub mod Code
+pub mod Levels
