@@ -3,3 +3,4 @@ pub mod Columns
 pub mod Marker
 pub mod Code
 pub mod Levels
+pub mod Pairs

@@ -9,6 +9,7 @@ mod levels;
 mod line;
 mod marker;
 mod pair;
+mod rows;
 mod symbols;
 mod wide;
 
@@ -17,5 +18,5 @@ pub use code::{pcs_kr_correct, pcs_kr_encode, pcs_rs_correct, pcs_rs_encode};
 pub use levels::{pcs_decode_levels, pcs_encode_levels};
 pub use line::{pcs_descramble, pcs_scramble};
 pub use marker::{pcs_group, pcs_marker};
-pub use pair::pcs_encode_pair;
+pub use pair::{pcs_decode_pair, pcs_encode_pair};
 pub use wide::{pcs_join, pcs_split};
