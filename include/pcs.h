@@ -3,7 +3,7 @@
  * Each function is proved to do what its comment says, for every value that C can give it. What is
  * not proved, and is the caller's part:
  *   - a pointer is not null, is aligned for its type, and leads to as many values as the array says;
- *   - what a pointer without const leads to overlaps nothing else that is passed in the same call;
+ *   - what is written to overlaps nothing else that is passed in the same call;
  *   - these declarations fit the library, which nothing checks.
  * No function takes memory, keeps anything from one call to the next, or calls anything but memcpy,
  * memmove and memset, so any thread may call any of them at any time (but no two of them on the same array).
@@ -75,14 +75,15 @@ uint8_t pcs_kr_correct(uint16_t word[528]);
 
 /* The 85 beats of a pair of codewords that carries these forty wides, wides[0] first. Octet l of a
  * beat is that of lane l, and its bit 0 travels first. A pair with a group has the wides of the group
- * as its first eight; all others are to be scrambled. */
-void pcs_encode_pair(const uint64_t wides[40][5], uint8_t beats[85][16]);
+ * as its first eight; all others are to be scrambled. `wides` is only read. (Before C23 an array of
+ * arrays can't be passed as one of const arrays, so const isn't written here and below.) */
+void pcs_encode_pair(uint64_t wides[40][5], uint8_t beats[85][16]);
 
 /* The way back, with both codewords corrected: counts[0] and counts[1] are the wrong symbols of
  * codewords A and B, or PCS_NO_CODEWORD; wrong[l] is how many symbols of lane l were replaced. The
  * wides are those of the corrected codewords. Returns 0; or 1 where one of the two has no codeword
- * within 15 symbols, and the wides are then zeros. */
-uint8_t pcs_decode_pair(const uint8_t beats[85][16], uint64_t wides[40][5],
+ * within 15 symbols, and the wides are then zeros. `beats` is only read. */
+uint8_t pcs_decode_pair(uint8_t beats[85][16], uint64_t wides[40][5],
                         uint8_t counts[2], uint16_t wrong[16]);
 
 /* The PAM4 levels of a beat. Level lane j carries lanes 2j and 2j + 1 by turns, a bit of each in a
