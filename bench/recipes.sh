@@ -6,6 +6,7 @@
 set -u
 top=$(cd "$(dirname "$0")/.." && pwd) || exit 1
 program=$(readlink -f -- "${1:-$top/crates/pcs_cli/out/pcs_cli}")
+library=$top/crates/pcs_c/out/libpcs_c.a
 work=$(mktemp -d)
 trap 'rm -rf "$work"' EXIT
 mkdir "$work/bin"
@@ -21,6 +22,8 @@ here() {
     for need in $(head -n 1 "$1" | grep "^# needs: " | cut -d " " -f 3-); do
         if [ "$need" = matplotlib ]; then
             /usr/bin/python3 -c 'import matplotlib' 2> /dev/null || return 1
+        elif [ "$need" = libpcs_c.a ]; then
+            [ -e "$library" ] || return 1
         else
             command -v "$need" > /dev/null || return 1
         fi
@@ -36,7 +39,8 @@ for block in $(printf '%s\n' "$work"/block* | sort -V); do
         continue
     fi
     mkdir "$work/at_$name"
-    ln -s "$top/examples" "$top/tools" "$work/at_$name"
+    ln -s "$top/examples" "$top/include" "$top/tools" "$work/at_$name"
+    [ ! -e "$library" ] || ln -s "$library" "$work/at_$name"
     if (cd "$work/at_$name" && bash -eu -o pipefail "$block") > "$block.out" 2>&1; then
         passed=$((passed + 1))
     else

@@ -81,6 +81,7 @@ in_c() {
 in_python() {
     run "Python, the library built" cc -shared -o "$work/libpcs_c.so" -Wl,--whole-archive "$library" -Wl,--no-whole-archive
     run "Python" env PCS_LIBRARY="$work/libpcs_c.so" python3 "$examples/example.py"
+    run "all functions, recomputed in Python" env PCS_LIBRARY="$work/libpcs_c.so" python3 "$top/bench/recompute.py"
 }
 
 in_verilator() {

@@ -136,6 +136,8 @@ def marker(lane):
 
 def group(number):
     """The eight wides of a group, counted from 0."""
+    if not 0 <= number < 1 << 64:
+        raise ValueError("groups have numbers of 64 bits")
     words = _u64x40()
     _group(number, words)
     return _wides(words)
