@@ -86,9 +86,9 @@ in_python() {
 
 in_verilator() {
     local plant name
-    for plant in "" RS=1 RS=2 LINE=1 BLOCK=1; do
+    for plant in "" RS=1 RS=2 LINE=1 BLOCK=1 LEVEL=1; do
         name="Verilator, ${plant:-no bug}"
-        if ! verilator --binary -j 1 -O1 --top-module tb "-GROUNDS=$rounds" ${plant:+"-G$plant"} "$examples"/{tb,rs_encoder,scrambler,block_encoder}.sv \
+        if ! verilator --binary -j 1 -O1 --top-module tb "-GROUNDS=$rounds" ${plant:+"-G$plant"} "$examples"/{pcs_pkg,tb,rs_encoder,scrambler,block_encoder,level_encoder}.sv \
             "$library" -Mdir "$work/verilated$plant" -o tb > "$work/log" 2>&1; then
             tell "$name, built" log 1
         elif [ -z "$plant" ]; then

@@ -1,5 +1,5 @@
-"""block_encoder.sv compared with the library in cocotb. Not run by bench/testbench.sh, since Debian has no
-cocotb; it is meant for cocotb 1.8 and later.
+"""block_encoder.sv compared with the library in cocotb. NOT RUN HERE: Debian has no cocotb, so neither was this
+ever run nor does bench/testbench.sh run it. It is written for cocotb 1.8.
 
     PYTHONPATH=. PCS_LIBRARY=path/of/libpcs_c.so make -f $(cocotb-config --makefiles)/Makefile.sim \\
         SIM=verilator TOPLEVEL_LANG=verilog VERILOG_SOURCES=block_encoder.sv TOPLEVEL=block_encoder MODULE=test_block_encoder
