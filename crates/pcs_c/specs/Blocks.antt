@@ -36,7 +36,7 @@ HaveTops wides = (i : ℕ) → i < length wides → slice_index (slice_index_or 
 abbrev pub AreWides : List ℕ → List (List ℕ) → Type 0
 AreWides bits wides = (flat (map wide_bits wides) ≡ bits) × HaveTops wides
 
--- what is left of joining blocks
+-- what joining four blocks writes and answers
 abbrev pub IsJoined : List Block → List ℕ → List ℕ → ℕ → Type 0
 IsJoined blocks old new status =
     (first_is_known blocks ≡ true → (status ≡ 0) × IsWide (wide_of blocks) new)

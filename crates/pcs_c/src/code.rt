@@ -17,9 +17,9 @@ pub extern "C" fn pcs_rs_encode(message: &[u16; 514], parity: &mut [u16; 30])
 {
     let mut symbols = [Gf::low(0); 514];
     read(&mut symbols, message);
-    let mut ends = [Gf::low(0); 30];
-    rs_code::encode(&symbols, &mut ends);
-    write(parity, &ends);
+    let mut parity_symbols = [Gf::low(0); 30];
+    rs_code::encode(&symbols, &mut parity_symbols);
+    write(parity, &parity_symbols);
 }
 
 /// Replaces the word by the codeword of RS(544,514) within fifteen places, and answers in how many
@@ -45,9 +45,9 @@ pub extern "C" fn pcs_kr_encode(message: &[u16; 514], parity: &mut [u16; 14])
 {
     let mut symbols = [Gf::low(0); 514];
     read(&mut symbols, message);
-    let mut ends = [Gf::low(0); 14];
-    kr_code::encode(&symbols, &mut ends);
-    write(parity, &ends);
+    let mut parity_symbols = [Gf::low(0); 14];
+    kr_code::encode(&symbols, &mut parity_symbols);
+    write(parity, &parity_symbols);
 }
 
 /// Replaces the word by the codeword of RS(528,514) within seven places, and answers in how many
