@@ -2,11 +2,10 @@
 use Rattle.std.proofs.Common.{◌≡◌, ℕ, ◌+◌, ◌≤◌, List, [], ◌++◌, take, length, Option, Some, None, sym, ◌∙◌, ap, refl, append_assoc, append-nil, length-append, arith, Result, Ok, Err}
 use Rattle.std.proofs.Math.Seq.{take-append-add}
 use Rattle.std.proofs.lemmas.List.{take-append-le}
-use Rattle.std.specs.Prelude.{OnOk, OnErr}
 use Rattle.std.specs.Io.KnownBytes.{Appends}
 use Rattle.pcs_io.specs.Octets.{AppendsFront}
 use Rattle.pcs_io.proofs.Told.{appends-append, appends-none}
-use Rattle.pcs_drive.specs.Writing.{Wrote, Puts, Stays, BreaksOffBefore, Longer, IsLonger, Lengthens}
+use Rattle.pcs_drive.specs.Writing.{Wrote, Longer, StaysInFront, Extends}
 
 pub wrote-start : (start : Option (List ℕ)) → Wrote start start [] []
 wrote-start start = record { written = []; appended = appends-none start; joined = refl }
@@ -61,39 +60,23 @@ front-more (Some before) (Some after) text more a =
     let within : a.0 ≤ length text = a.1 in
     (a.0, omega (arith, a.1, length-append text more), a.2 ∙ ap (λ t. before ++ t) (rw take-append-le refl))
 
--- ---- what is held never gets less
+-- ---- what is held stays in front
 pub longer-none : (held : Option (List ℕ)) → Longer held held
 longer-none held = ([], appends-none held)
 
-pub same-told : (held : Option (List ℕ)) → IsLonger held held
-same-told None = tt
-same-told (Some xs) = omega arith
+pub same-in-front : (held : Option (List ℕ)) → StaysInFront held held
+same-in-front None = tt
+same-in-front (Some xs) = ([], sym (append-nil xs))
 
 pub longer-then : (a b c : Option (List ℕ)) → Longer a b → Longer b c → Longer a c
 longer-then a b c l m = (l.0 ++ m.0, appends-append a b c l.0 m.0 l.1 m.1)
 
-pub longer-told : (a b c : Option (List ℕ)) → Longer a b → IsLonger b c → IsLonger a c
-longer-told None b c l t = tt
-longer-told (Some xs) None c l t = absurd l.1
-longer-told (Some xs) (Some ys) None l t = tt
-longer-told (Some xs) (Some ys) (Some zs) l t = omega (arith, t, ap length l.1, length-append xs l.0)
+pub longer-in-front : (a b c : Option (List ℕ)) → Longer a b → StaysInFront b c → StaysInFront a c
+longer-in-front None b c l t = tt
+longer-in-front (Some xs) None c l t = absurd l.1
+longer-in-front (Some xs) (Some ys) None l t = tt
+longer-in-front (Some xs) (Some ys) (Some zs) l t = (l.0 ++ t.0, t.1 ∙ ap (λ h. h ++ t.0) l.1 ∙ append_assoc xs l.0 t.0)
 
-pub lengthened : {T E : Type 0} (a b c : Option (List ℕ)) (result : Result T E) → Longer a b → Lengthens b c result → Lengthens a c result
-lengthened a b c (Ok value) l m = longer-then a b c l m
-lengthened a b c (Err error) l m = longer-told a b c l m
-
-pub stays-longer : (held now : Option (List ℕ)) (old new : List ℕ) → Stays held old now new → Longer held now
-stays-longer held now old new stays = let w = stays held old (wrote-pending held old old refl) in (w.written, w.appended)
-
-pub breaks-longer : (held now : Option (List ℕ)) (old : List ℕ) → BreaksOffBefore held old now → IsLonger held now
-breaks-longer held now old breaks = by held now (breaks held old (wrote-pending held old old refl))
-  where
-    by : (held now : Option (List ℕ)) → AppendsFront held now old → IsLonger held now
-    by None now a = tt
-    by (Some xs) None a = tt
-    by (Some xs) (Some ys) a = omega (arith, ap length a.2, length-append xs (take a.0 old))
-
-pub put-lengthens : {T E : Type 0} (held now : Option (List ℕ)) (old more new : List ℕ) (result : Result T E) → OnOk result (Puts held old more now new)
-    → OnErr result (BreaksOffBefore held old now) → Lengthens held now result
-put-lengthens held now old more new (Ok value) puts breaks = let w = puts held old (wrote-pending held old old refl) in (w.written, w.appended)
-put-lengthens held now old more new (Err error) puts breaks = breaks-longer held now old breaks
+pub extended : {T E : Type 0} (a b c : Option (List ℕ)) (result : Result T E) → Longer a b → Extends b c result → Extends a c result
+extended a b c (Ok value) l m = longer-then a b c l m
+extended a b c (Err error) l m = longer-in-front a b c l m

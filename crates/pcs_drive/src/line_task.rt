@@ -2,6 +2,7 @@
 ghost use Rattle.std.specs.Prelude.{ℕ, List, OnOk, OnErr};
 ghost use Rattle.pcs_io.specs.Faults.{HasCause};
 ghost use Rattle.pcs_drive.specs.LineTasks.{TakesLine, PutsLine, BreaksAtLine};
+ghost use Rattle.pcs_drive.specs.Writing.{Extends};
 
 use crate::Output;
 use pcs_io::{Failed, Parser, Sink};
@@ -25,5 +26,6 @@ pub trait LineTask<P: Parser> {
         ensures taken { OnOk result (TakesLine Keeps self.old self.new parser.now) }
         ensures ok { OnOk result (PutsLine Keeps text self.old parser.now (W.held sink.old) output.old (W.held sink.new) output.new) }
         ensures err { OnErr result (BreaksAtLine Keeps text self.old parser.now (W.held sink.old) output.old (W.held sink.new)) }
-        ensures cause { HasCause (W.faults sink.old) (W.faults sink.new) result };
+        ensures cause { HasCause (W.faults sink.old) (W.faults sink.new) result }
+        ensures grows { Extends (W.held sink.old) (W.held sink.new) result };
 }

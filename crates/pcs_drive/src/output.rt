@@ -2,7 +2,7 @@
 ghost use Rattle.std.specs.Prelude.{◌≡◌, ◌≤◌, ◌+◌, ◌*◌, ◌++◌, ◌∷◌, ◌⊎◌, [], length, false, OnOk, OnErr};
 ghost use Rattle.hex.specs.Hex.{encode_lower};
 ghost use Rattle.pcs_io.specs.Faults.{HasCause};
-ghost use Rattle.pcs_drive.specs.Writing.{Puts, Stays, BreaksOff, BreaksOffBefore};
+ghost use Rattle.pcs_drive.specs.Writing.{Puts, Stays, BreaksOff, BreaksOffBefore, Extends};
 
 use pcs_io::{Failed, Sink, put_all};
 use std::marker::Model;
@@ -53,6 +53,7 @@ impl Output {
         ensures ok { OnOk result (Puts (W.held sink.old) self.old octets.now (W.held sink.new) self.new) }
         ensures err { OnErr result (BreaksOffBefore (W.held sink.old) self.old (W.held sink.new)) }
         ensures cause { HasCause (W.faults sink.old) (W.faults sink.new) result }
+        ensures grows { Extends (W.held sink.old) (W.held sink.new) result }
     {
         self.make_room(sink, octets.len())?;
         self.append(octets);
@@ -65,6 +66,7 @@ impl Output {
         ensures ok { OnOk result (Puts (W.held sink.old) self.old (encode_lower octets.now ++ 10 ∷ []) (W.held sink.new) self.new) }
         ensures err { OnErr result (BreaksOffBefore (W.held sink.old) self.old (W.held sink.new)) }
         ensures cause { HasCause (W.faults sink.old) (W.faults sink.new) result }
+        ensures grows { Extends (W.held sink.old) (W.held sink.new) result }
     {
         self.make_room(sink, 2 * octets.len() + 1)?;
         self.append_hex(octets);
@@ -77,6 +79,7 @@ impl Output {
         ensures ok { OnOk result (Puts (W.held sink.old) self.old octets.now (W.held sink.new) self.new) }
         ensures err { OnErr result (BreaksOff (W.held sink.old) self.old octets.now (W.held sink.new)) }
         ensures cause { HasCause (W.faults sink.old) (W.faults sink.new) result }
+        ensures grows { Extends (W.held sink.old) (W.held sink.new) result }
     {
         self.flush(sink)?;
         put_all(sink, octets)?;
@@ -110,6 +113,7 @@ impl Output {
         ensures err { OnErr result (BreaksOffBefore (W.held sink.old) self.old (W.held sink.new)) }
         ensures room { OnOk result ((length self.new + count ≤ 65536) ⊎ (self.new ≡ [])) }
         ensures cause { HasCause (W.faults sink.old) (W.faults sink.new) result }
+        ensures grows { Extends (W.held sink.old) (W.held sink.new) result }
     {
         if count <= ROOM - self.count {
             return Ok(());
@@ -123,6 +127,7 @@ impl Output {
         ensures empty { OnOk result (self.new ≡ []) }
         ensures err { OnErr result (BreaksOffBefore (W.held sink.old) self.old (W.held sink.new)) }
         ensures cause { HasCause (W.faults sink.old) (W.faults sink.new) result }
+        ensures grows { Extends (W.held sink.old) (W.held sink.new) result }
     {
         put_all(sink, &self.text[..self.count])?;
         self.count = 0;
@@ -135,6 +140,7 @@ impl Output {
         ensures written { OnOk result ((more ≡ false) → self.new ≡ []) }
         ensures err { OnErr result (BreaksOffBefore (W.held sink.old) self.old (W.held sink.new)) }
         ensures cause { HasCause (W.faults sink.old) (W.faults sink.new) result }
+        ensures grows { Extends (W.held sink.old) (W.held sink.new) result }
     {
         if more {
             return Ok(());

@@ -2,6 +2,7 @@
 ghost use Rattle.std.specs.Prelude.{◌≡◌, ◌≤◌, ◌<◌, ◌+◌, ◌*◌, ◌/◌, ◌^◌, ℕ, List, length, take, drop, IfOk, OnOk, OnErr};
 ghost use Rattle.pcs_io.specs.Faults.{HasCause};
 ghost use Rattle.pcs_drive.specs.CaptureCommand.{BeatsText};
+ghost use Rattle.pcs_drive.specs.Writing.{Extends};
 ghost use Rattle.pcs_drive.specs.Tasks.{TakesBeat, BreaksAtBeat, TakesBeats, BreaksAtBeats, Finishes, BreaksAtEnd};
 
 use crate::Output;
@@ -31,7 +32,8 @@ pub trait Task {
         ensures ready { OnOk result (IsReady self.new) }
         ensures taken { OnOk result (taken self.new ≤ taken self.old + 1) }
         ensures err { OnErr result (BreaksAtBeat Keeps self.old beat (W.held sink.old) output.old (W.held sink.new)) }
-        ensures cause { HasCause (W.faults sink.old) (W.faults sink.new) result };
+        ensures cause { HasCause (W.faults sink.old) (W.faults sink.new) result }
+        ensures grows { Extends (W.held sink.old) (W.held sink.new) result };
 
     /// Takes so many beats of sixteen octets, one behind the other.
     fn take_all<W: Sink>(
@@ -49,6 +51,7 @@ pub trait Task {
         ensures taken { OnOk result (taken self.new ≤ taken self.old + length octets.now / 16) }
         ensures err { OnErr result (BreaksAtBeats Keeps self.old octets.now (W.held sink.old) output.old (W.held sink.new)) }
         ensures cause { HasCause (W.faults sink.old) (W.faults sink.new) result }
+        ensures grows { Extends (W.held sink.old) (W.held sink.new) result }
     {
         for i in 0..octets.len() / 16 {
             self.take(beat_of(octets, i), output, sink)?;
@@ -61,7 +64,8 @@ pub trait Task {
         requires ready { IsReady self.old }
         ensures ok { IfOk result (λ aligned. Finishes Keeps self.old aligned (W.held sink.old) output.old (W.held sink.new) output.new) }
         ensures err { OnErr result (BreaksAtEnd Keeps self.old (W.held sink.old) output.old (W.held sink.new)) }
-        ensures cause { HasCause (W.faults sink.old) (W.faults sink.new) result };
+        ensures cause { HasCause (W.faults sink.old) (W.faults sink.new) result }
+        ensures grows { Extends (W.held sink.old) (W.held sink.new) result };
 }
 
 // Beat i of the octets.

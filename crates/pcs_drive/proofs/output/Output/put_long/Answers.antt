@@ -1,4 +1,5 @@
 use Rattle.std.proofs.lemmas.Result.{err_from_is_err_and}
+use Rattle.pcs_drive.proofs.WritingLemmas.{longer-then}
 use Rattle.pcs_drive.proofs.PuttingLong.{puts-long, breaks-long, breaks-before}
 use Rattle.pcs_drive.proofs.output.Output.put_long.Goals as goal
 
@@ -14,3 +15,6 @@ returns-in_err-put_all-clause-err g c =
 
 pub returns-clause-ok : goal.returns-clause-ok
 returns-clause-ok g c = puts-long _ _ _ _ _ _ c.in_ok-flush.ensures.ok c.in_ok-put_all.ensures.ok c.in_ok-flush.ensures.empty
+
+pub returns-clause-grows : goal.returns-clause-grows
+returns-clause-grows g c = longer-then _ _ _ c.in_ok-flush.ensures.grows (_, c.in_ok-put_all.ensures.ok)

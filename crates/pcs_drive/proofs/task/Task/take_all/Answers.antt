@@ -2,6 +2,7 @@ use Rattle.std.proofs.Common.{◌≡◌, ◌+◌, ◌/◌, [], ◌∷◌, length
 use Rattle.std.proofs.lemmas.Result.{err_from_is_err_and}
 use Rattle.pcs_io.specs.Octets.{AppendsFront}
 use Rattle.pcs_drive.specs.Tasks.{HasPut}
+use Rattle.pcs_drive.proofs.WritingLemmas.{longer-none, longer-then}
 use Rattle.pcs_drive.proofs.Beats.{one-more-beat, all-beats, fewer-beats}
 use Rattle.pcs_drive.proofs.task.Task.take_all.Goals as goal
 
@@ -12,6 +13,7 @@ loop-i-init g c = record {
   ready = c.requires.ready;
   taken = omega arith;
   writes = omega arith;
+  grows = longer-none _;
 }
 
 pub loop-i-preserved : goal.loop-i-preserved
@@ -24,6 +26,7 @@ loop-i-preserved g c = record {
   ready = c.in_ok-take.ensures.ready;
   taken = omega (arith, c.in_ok-take.ensures.taken, c.loop-i.invariant.taken);
   writes = omega (arith, c.take.ensures.cause.later, c.loop-i.invariant.writes);
+  grows = longer-then _ _ _ c.loop-i.invariant.grows c.in_ok-take.ensures.grows;
 }
 
 pub returns-clause-ok : goal.returns-clause-ok

@@ -1,5 +1,6 @@
 use Rattle.std.proofs.Common.{◌≤◌, ◌+◌, ℕ, List, take, ◌++◌, Option}
 use Rattle.pcs_drive.specs.CaptureCommand.{BeatsText}
+use Rattle.pcs_drive.specs.Writing.{Longer}
 use Rattle.pcs_drive.specs.Tasks.{AreBeats, HasPut}
 use Rattle.pcs_drive.proofs.task.Task.take_all.Given as goal
 
@@ -12,4 +13,5 @@ invariant-loop-i g l = let task = g.Self.Task in let held = g.W.Sink.held in
       ready : task.IsReady l.self;
       taken : task.taken l.self ≤ task.taken l.fn.self + l.i;
       writes : g.W.Sink.faults l.fn.sink ≤ g.W.Sink.faults l.sink;
+      grows : Longer (held l.fn.sink) (held l.sink);
     }
