@@ -6,7 +6,7 @@ ghost use Rattle.pcs_io.specs.SymbolAnswers.{AreSymbols};
 ghost use Rattle.pcs_io.specs.SymbolLines.{symbol_line_at};
 ghost use Rattle.pcs_drive.specs.Seen.{seen};
 ghost use Rattle.pcs_drive.specs.LineCommand.{Converted, OrNoMemory};
-ghost use Rattle.pcs_drive.specs.Writing.{Puts, BreaksOffBefore};
+ghost use Rattle.pcs_drive.specs.Writing.{Puts, BreaksOffBefore, Extends};
 ghost use Rattle.pcs_late.specs.Kr.{answer_text, kr_text};
 
 use crate::kr_text::text_of;
@@ -69,6 +69,7 @@ fn put_line<W: Sink>(output: &mut Output, sink: &mut W, symbols: &[u16]) -> Resu
     ensures ok { OnOk result (Puts (W.held sink.old) output.old (answer_text symbols.now ++ 10 ∷ []) (W.held sink.new) output.new) }
     ensures err { OnErr result (BreaksOffBefore (W.held sink.old) output.old (W.held sink.new)) }
     ensures cause { HasCause (W.faults sink.old) (W.faults sink.new) result }
+    ensures grows { Extends (W.held sink.old) (W.held sink.new) result }
 {
     output.put(sink, text_of(symbols).as_slice())
 }

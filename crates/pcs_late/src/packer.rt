@@ -5,7 +5,7 @@ ghost use Rattle.pcs_io.specs.Faults.{HasCause};
 ghost use Rattle.pcs_io.specs.Histories.{Stands, opened};
 ghost use Rattle.pcs_io.specs.TextLines.{text_line_at};
 ghost use Rattle.pcs_drive.specs.Seen.{seen};
-ghost use Rattle.pcs_drive.specs.Writing.{Puts, BreaksOff};
+ghost use Rattle.pcs_drive.specs.Writing.{Puts, BreaksOff, Extends};
 ghost use Rattle.pcs_late.specs.Packing.{Packed};
 
 use pcap_frames::{pcap_header, record_header};
@@ -59,6 +59,7 @@ fn put_record<W: Sink>(output: &mut Output, sink: &mut W, frame: &[u8]) -> Resul
     ensures ok { OnOk result (Puts (W.held sink.old) output.old (record_octets frame.now) (W.held sink.new) output.new) }
     ensures err { OnErr result (BreaksOff (W.held sink.old) output.old (record_octets frame.now) (W.held sink.new)) }
     ensures cause { HasCause (W.faults sink.old) (W.faults sink.new) result }
+    ensures grows { Extends (W.held sink.old) (W.held sink.new) result }
 {
     output.put(sink, &record_header(frame.len() as u32))?;
     output.put(sink, frame)?;

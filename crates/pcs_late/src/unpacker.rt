@@ -2,7 +2,7 @@
 ghost use Rattle.std.specs.Prelude.{◌≡◌, ◌≤◌, [], decimal, length, OnOk, OnErr};
 ghost use Rattle.pcs_io.specs.Faults.{HasCause};
 ghost use Rattle.pcs_drive.specs.Seen.{seen};
-ghost use Rattle.pcs_drive.specs.Writing.{Puts, BreaksOff, BreaksOffBefore};
+ghost use Rattle.pcs_drive.specs.Writing.{Puts, BreaksOff, BreaksOffBefore, Extends};
 ghost use Rattle.pcs_late.specs.Unpacking.{IsOpened, Unpacked, Unpacks, frame_line};
 
 use crate::PcapOutcome;
@@ -69,6 +69,7 @@ fn put_gap<W: Sink>(output: &mut Output, sink: &mut W, gap: u32) -> Result<(), F
     ensures ok { OnOk result (Puts (W.held sink.old) output.old (decimal gap) (W.held sink.new) output.new) }
     ensures err { OnErr result (BreaksOffBefore (W.held sink.old) output.old (W.held sink.new)) }
     ensures cause { HasCause (W.faults sink.old) (W.faults sink.new) result }
+    ensures grows { Extends (W.held sink.old) (W.held sink.new) result }
 {
     output.put(sink, Buffer::new().format(gap).as_bytes())
 }
@@ -84,6 +85,7 @@ fn put_frame_line<W: Sink>(
     ensures ok { OnOk result (Puts (W.held sink.old) output.old (frame_line gap frame.now) (W.held sink.new) output.new) }
     ensures err { OnErr result (BreaksOff (W.held sink.old) output.old (frame_line gap frame.now) (W.held sink.new)) }
     ensures cause { HasCause (W.faults sink.old) (W.faults sink.new) result }
+    ensures grows { Extends (W.held sink.old) (W.held sink.new) result }
 {
     put_gap(output, sink, gap)?;
     output.put(sink, b" ")?;

@@ -1,4 +1,5 @@
 use Rattle.std.proofs.lemmas.Result.{err_from_is_err_and}
+use Rattle.pcs_drive.proofs.WritingLemmas.{longer-then}
 use Rattle.pcs_drive.proofs.PuttingLong.{breaks-before}
 use Rattle.pcs_drive.proofs.PuttingMore.{puts-both, breaks-within}
 use Rattle.pcs_late.proofs.packer.put_record.Goals as goal
@@ -18,3 +19,6 @@ pub returns-clause-ok : goal.returns-clause-ok
 returns-clause-ok g c =
     let front = rw (c.record_header.ensures) at c.in_ok-put.ensures.ok in
     puts-both _ _ _ _ _ _ _ _ front c.in_ok-put-2.ensures.ok
+
+pub returns-clause-grows : goal.returns-clause-grows
+returns-clause-grows g c = longer-then _ _ _ c.in_ok-put.ensures.grows c.in_ok-put-2.ensures.grows

@@ -1,4 +1,5 @@
 use Rattle.std.proofs.lemmas.Result.{err_from_is_err_and}
+use Rattle.pcs_drive.proofs.WritingLemmas.{longer-then}
 use Rattle.pcs_drive.proofs.PuttingLong.{breaks-before}
 use Rattle.pcs_drive.proofs.PuttingMore.{puts-both, breaks-within, breaks-later}
 use Rattle.pcs_late.proofs.unpacker.put_frame_line.Goals as goal
@@ -20,3 +21,7 @@ returns-in_err-put_hex_line-clause-err g c =
 
 pub returns-clause-ok : goal.returns-clause-ok
 returns-clause-ok g c = puts-both _ _ _ _ _ _ _ _ c.in_ok-put_gap.ensures.ok (puts-both _ _ _ _ _ _ _ _ c.in_ok-put.ensures.ok c.in_ok-put_hex_line.ensures.ok)
+
+pub returns-clause-grows : goal.returns-clause-grows
+returns-clause-grows g c =
+    longer-then _ _ _ c.in_ok-put_gap.ensures.grows (longer-then _ _ _ c.in_ok-put.ensures.grows c.in_ok-put_hex_line.ensures.grows)

@@ -18,4 +18,5 @@ returns g c =
       err = on_err_weaker c.put_line.result (λ before. breaks-piece line c.args.parser.now _ c.symbols.ensures.numbers kr_text answer one-line (λ x parsers. ⊤) c.args.self.now _ _ _
           (λ start text wrote. front-more _ _ _ _ (before start text wrote))) c.put_line.ensures.err;
       cause = c.put_line.ensures.cause;
+      grows = c.put_line.ensures.grows;
     }

@@ -13,4 +13,5 @@ returns g c = let line = λ (parser : TextParserState). parser.frame in record {
   ok = on_ok_weaker c.put_record.result (puts-piece line c.args.parser.now _ c.frame.ensures.frame records_text record_octets one-frame (λ x parsers. ⊤) c.args.self.now _ _ _ _) c.put_record.ensures.ok;
   err = on_err_weaker c.put_record.result (breaks-piece line c.args.parser.now _ c.frame.ensures.frame records_text record_octets one-frame (λ x parsers. ⊤) c.args.self.now _ _ _) c.put_record.ensures.err;
   cause = c.put_record.ensures.cause;
+  grows = c.put_record.ensures.grows;
 }
