@@ -22,13 +22,13 @@ use Rattle.pcs_top.specs.LineColumns.{columns_of_line, columns_of_lines}
 use Rattle.pcs_top.specs.Encoding.{BrokeOff, HasWaited, Encoded, Encodes, HasBegun}
 use Rattle.pcs_top.specs.Sending.{HasPut, LineHalts}
 use Rattle.std.specs.Prelude.{IfSome}
-use Rattle.pcs_drive.specs.Writing.{Wrote, Stays, BreaksOffBefore, IsLonger}
+use Rattle.pcs_drive.specs.Writing.{Wrote, Stays, BreaksOffBefore, StaysInFront}
 use Rattle.pcs_words.specs.declared.command.EncodeOptions.{EncodeOptions}
 use Rattle.pcs_top.specs.declared.encode.Halt.{Halt}
 use Rattle.pcs_top.specs.declared.encode.Halt.TheVariants as halt
 use Rattle.pcs_drive.specs.declared.outcome.Outcome.{Outcome}
 use Rattle.pcs_drive.specs.declared.outcome.Outcome.TheVariants.{Done, ReadFault, WriteFault, BadLine, TooTight, TooLong}
-use Rattle.pcs_drive.proofs.WritingLemmas.{wrote-all, same-told}
+use Rattle.pcs_drive.proofs.WritingLemmas.{wrote-all, same-in-front}
 use Rattle.pcs_io.proofs.Progress.{fresh-near}
 use Rattle.pcs_drive.proofs.Copying.{Copied, opened-near, reading, all-written, took-all, took-more, refused, behind-fault, tells}
 
@@ -78,23 +78,34 @@ module _ (o : EncodeOptions) where
 
   -- where the header and the lead were written before, they are written
   pub waited-told : (sender : State) (seen : Seen) (mid end : Option (List ℕ)) (pending text more : List ℕ) → HasPut sender o [] seen.held_before mid pending → pending ≡ []
-      → IsLonger mid end → Wrote seen.held_before end text more → IsLonger end seen.held_after → HasWaited o seen
+      → StaysInFront mid end → Wrote seen.held_before end text more → StaysInFront end seen.held_after → HasWaited o seen
   waited-told sender seen mid end pending text more put none longer told later =
       by seen.held_before mid end seen.held_after (subst (Wrote seen.held_before mid (begun_octets o [])) none put.sent.wrote) longer told later
     where
-      by : (before mid end after : Option (List ℕ)) → Wrote before mid (begun_octets o []) [] → IsLonger mid end → Wrote before end text more → IsLonger end after
+      by : (before mid end after : Option (List ℕ)) → Wrote before mid (begun_octets o []) [] → StaysInFront mid end → Wrote before end text more → StaysInFront end after
           → IfSome before (λ b. IfSome after (λ a. length a < length b + length (begun_octets o []) → seen.told_after ≡ seen.told_before))
       by None mid end after w l t m = tt
       by (Some b) None end after w l t m = absurd w.appended
       by (Some b) (Some h) None after w l t m = absurd t.appended
       by (Some b) (Some h) (Some e) None w l t m = tt
       by (Some b) (Some h) (Some e) (Some a) w l t m =
-          λ few. absurd (omega (arith, few, l, m, ap length w.appended, length-append b w.written, ap length w.joined, length-append w.written []))
+          λ few. absurd (omega (
+            arith,
+            few,
+            ap length l.1,
+            length-append h l.0,
+            ap length m.1,
+            length-append e m.0,
+            ap length w.appended,
+            length-append b w.written,
+            ap length w.joined,
+            length-append w.written [],
+          ))
 
   pub waited : (sender : State) (seen : Seen) (mid : Option (List ℕ)) (pending : List ℕ) → HasPut sender o [] seen.held_before mid pending → pending ≡ []
-      → IsLonger mid seen.held_after → HasWaited o seen
+      → StaysInFront mid seen.held_after → HasWaited o seen
   waited sender seen mid pending put none longer =
-      waited-told sender seen mid mid pending (begun_octets o []) pending put none (same-told mid) put.sent.wrote longer
+      waited-told sender seen mid mid pending (begun_octets o []) pending put none (same-in-front mid) put.sent.wrote longer
 
   has-lines : (sender : State) (lines : List FrameLine) (cs : List Column) (start held : Option (List ℕ)) (pending : List ℕ)
       → HasPut sender o cs start held pending → columns_of_lines lines ≡ cs

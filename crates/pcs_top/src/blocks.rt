@@ -6,7 +6,7 @@ ghost use Rattle.pcs_io.specs.Histories.{Stands, opened};
 ghost use Rattle.pcs_drive.specs.Seen.{seen};
 ghost use Rattle.pcs_drive.specs.LineCommand.{Converted, OrNoMemory};
 ghost use Rattle.pcs_top.specs.Texts.{block_line, block_text, column_text};
-ghost use Rattle.pcs_drive.specs.Writing.{Puts, BreaksOff};
+ghost use Rattle.pcs_drive.specs.Writing.{Puts, BreaksOff, Extends};
 ghost use Rattle.pcs_io.specs.FrameAnswers.{said, FitsLine};
 ghost use Rattle.pcs_top.specs.LineColumns.{columns_of_line};
 ghost use Rattle.mac_columns.specs.Columns.{columns_of, columns_of_set};
@@ -71,6 +71,7 @@ fn put_line<W: Sink>(output: &mut Output, sink: &mut W, line: Line<'_>) -> Resul
     ensures ok { OnOk result (Puts (W.held sink.old) output.old (column_text (columns_of_line (said line.entry))) (W.held sink.new) output.new) }
     ensures err { OnErr result (BreaksOff (W.held sink.old) output.old (column_text (columns_of_line (said line.entry))) (W.held sink.new)) }
     ensures cause { HasCause (W.faults sink.old) (W.faults sink.new) result }
+    ensures grows { Extends (W.held sink.old) (W.held sink.new) result }
 {
     match line {
         Line::Frame { gap, frame } => put_frame(output, sink, frame, gap),
@@ -89,6 +90,7 @@ fn put_frame<W: Sink>(
     ensures ok { OnOk result (Puts (W.held sink.old) output.old (column_text (columns_of frame.now gap)) (W.held sink.new) output.new) }
     ensures err { OnErr result (BreaksOff (W.held sink.old) output.old (column_text (columns_of frame.now gap)) (W.held sink.new)) }
     ensures cause { HasCause (W.faults sink.old) (W.faults sink.new) result }
+    ensures grows { Extends (W.held sink.old) (W.held sink.new) result }
 {
     output.make_room(sink, LINE * (2 + frame.len() / 8 + gap as usize))?;
     let mut columns = FrameColumns::new(frame, gap);
@@ -108,6 +110,7 @@ fn put_set<W: Sink>(
     ensures ok { OnOk result (Puts (W.held sink.old) output.old (column_text (columns_of_set octets gap)) (W.held sink.new) output.new) }
     ensures err { OnErr result (BreaksOff (W.held sink.old) output.old (column_text (columns_of_set octets gap)) (W.held sink.new)) }
     ensures cause { HasCause (W.faults sink.old) (W.faults sink.new) result }
+    ensures grows { Extends (W.held sink.old) (W.held sink.new) result }
 {
     output.make_room(sink, LINE * (1 + gap as usize))?;
     let mut columns = SetColumns::new(octets, gap);

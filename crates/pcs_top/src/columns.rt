@@ -4,7 +4,7 @@ ghost use Rattle.mac_columns.specs.declared.column.Column.TheVariants as kind;
 ghost use Rattle.pcs_io.specs.Faults.{HasCause};
 ghost use Rattle.pcs_drive.specs.Seen.{seen};
 ghost use Rattle.pcs_drive.specs.CaptureCommand.{FromCapture};
-ghost use Rattle.pcs_drive.specs.Writing.{Puts, BreaksOff};
+ghost use Rattle.pcs_drive.specs.Writing.{Puts, BreaksOff, Extends};
 ghost use Rattle.pcs_top.specs.ColumnTexts.{columned};
 ghost use Rattle.pcs_top.specs.Texts.{column_text};
 
@@ -105,6 +105,7 @@ fn put_column<W: Sink>(
     ensures ok { OnOk result (Puts (W.held sink.old) output.old (column_text (column.now ∷ replicate idles kind.Idle)) (W.held sink.new) output.new) }
     ensures err { OnErr result (BreaksOff (W.held sink.old) output.old (column_text (column.now ∷ replicate idles kind.Idle)) (W.held sink.new)) }
     ensures cause { HasCause (W.faults sink.old) (W.faults sink.new) result }
+    ensures grows { Extends (W.held sink.old) (W.held sink.new) result }
 {
     output.put(sink, &line_of(&encode(column)))?;
     put_idles(output, sink, idles)?;
@@ -116,6 +117,7 @@ fn put_idles<W: Sink>(output: &mut Output, sink: &mut W, count: u64) -> Result<(
     ensures ok { OnOk result (Puts (W.held sink.old) output.old (column_text (replicate count kind.Idle)) (W.held sink.new) output.new) }
     ensures err { OnErr result (BreaksOff (W.held sink.old) output.old (column_text (replicate count kind.Idle)) (W.held sink.new)) }
     ensures cause { HasCause (W.faults sink.old) (W.faults sink.new) result }
+    ensures grows { Extends (W.held sink.old) (W.held sink.new) result }
 {
     let line = line_of(&encode(&Column::Idle));
     for i in 0..count {

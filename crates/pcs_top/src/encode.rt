@@ -20,7 +20,7 @@ ghost use Rattle.pcs_top.specs.Captures.{capture_octets, form_header, begun_octe
 ghost use Rattle.pcs_top.specs.Encoding.{Encoded, Encodes};
 ghost use Rattle.pcs_top.specs.Sending.{HasSent, HasPut, ColumnHalts, LineHalts, with_pairs, filled_columns, AreWhole};
 ghost use Rattle.pcs_words.specs.Commands.{IsEncode};
-ghost use Rattle.pcs_drive.specs.Writing.{Puts, BreaksOffBefore, Wrote, Lengthens};
+ghost use Rattle.pcs_drive.specs.Writing.{Puts, BreaksOffBefore, Wrote, Extends};
 
 use crate::idle_pairs::{put_idle_pair, put_idle_pairs, put_pair};
 use mac_columns::{Column, FrameColumns, SetColumns};
@@ -70,7 +70,7 @@ fn put_column<W: Sink>(
         → ColumnHalts o cs column start (W.held sink.new) output.new halt) }
     ensures later { W.faults sink.old ≤ W.faults sink.new }
     ensures failed { IsErrOf result Halt.Failed → Rose (W.faults sink.old) (W.faults sink.new) }
-    ensures grows { Lengthens (W.held sink.old) (W.held sink.new) result }
+    ensures grows { Extends (W.held sink.old) (W.held sink.new) result }
 {
     match sender.put(column)? {
         Put::More => {}
@@ -97,7 +97,7 @@ fn put_line<W: Sink>(
         → LineHalts o cs (columns_of_line (said line.entry)) start (W.held sink.new) output.new halt) }
     ensures later { W.faults sink.old ≤ W.faults sink.new }
     ensures failed { IsErrOf result Halt.Failed → Rose (W.faults sink.old) (W.faults sink.new) }
-    ensures grows { Lengthens (W.held sink.old) (W.held sink.new) result }
+    ensures grows { Extends (W.held sink.old) (W.held sink.new) result }
 {
     match line {
         Line::Frame { gap, frame } => put_frame(frame, gap, sender, output, sink),
@@ -124,7 +124,7 @@ fn put_frame<W: Sink>(
         → LineHalts o cs (columns_of frame.now gap) start (W.held sink.new) output.new halt) }
     ensures later { W.faults sink.old ≤ W.faults sink.new }
     ensures failed { IsErrOf result Halt.Failed → Rose (W.faults sink.old) (W.faults sink.new) }
-    ensures grows { Lengthens (W.held sink.old) (W.held sink.new) result }
+    ensures grows { Extends (W.held sink.old) (W.held sink.new) result }
 {
     let mut columns = FrameColumns::new(frame, gap);
     while let Some(column) = columns.next() {
@@ -151,7 +151,7 @@ fn put_set<W: Sink>(
         → LineHalts o cs (columns_of_set octets gap) start (W.held sink.new) output.new halt) }
     ensures later { W.faults sink.old ≤ W.faults sink.new }
     ensures failed { IsErrOf result Halt.Failed → Rose (W.faults sink.old) (W.faults sink.new) }
-    ensures grows { Lengthens (W.held sink.old) (W.held sink.new) result }
+    ensures grows { Extends (W.held sink.old) (W.held sink.new) result }
 {
     let mut columns = SetColumns::new(octets, gap);
     while let Some(column) = columns.next() {
@@ -221,7 +221,7 @@ fn fill_last<W: Sink>(sender: &mut Sender, output: &mut Output, sink: &mut W) ->
         → HasPut sender.old o cs start (W.held sink.old) output.old
         → AppendsFront start (W.held sink.new) (capture_octets o.form o.period (carried o.period (filled_columns o cs)))) }
     ensures cause { HasCause (W.faults sink.old) (W.faults sink.new) result }
-    ensures grows { Lengthens (W.held sink.old) (W.held sink.new) result }
+    ensures grows { Extends (W.held sink.old) (W.held sink.new) result }
 {
     if !sender.begun() {
         return Ok(());
@@ -245,7 +245,7 @@ fn finish<W: Sink>(
         → HasPut sender.old options.now cs start (W.held sink.old) output.old
         → AppendsFront start (W.held sink.new) (sent_octets options.now cs)) }
     ensures cause { HasCause (W.faults sink.old) (W.faults sink.new) result }
-    ensures grows { Lengthens (W.held sink.old) (W.held sink.new) result }
+    ensures grows { Extends (W.held sink.old) (W.held sink.new) result }
 {
     fill_last(sender, output, sink)?;
     put_idle_pairs(sender, output, sink, options.tail * options.period)

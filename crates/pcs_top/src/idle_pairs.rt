@@ -9,7 +9,7 @@ ghost use Rattle.pcs_send.specs.Histories.{Sending, end_column, after_take};
 ghost use Rattle.pcs_send.specs.Holding.{Stands, is_ready};
 ghost use Rattle.pcs_top.specs.Captures.{capture_octets};
 ghost use Rattle.pcs_top.specs.Sending.{HasSent, with_pairs, AreWhole};
-ghost use Rattle.pcs_drive.specs.Writing.{Puts, BreaksOff, Lengthens};
+ghost use Rattle.pcs_drive.specs.Writing.{Puts, BreaksOff, Extends};
 
 use pcs_drive::Output;
 use pcs_io::{Failed, Sink};
@@ -31,7 +31,7 @@ pub fn put_pair<W: Sink>(
     ensures err { OnErr result ((h : Sending) → Stands sender.old h
         → BreaksOff (W.held sink.old) output.old (flat (pair_beats h.period h.placed h.taken)) (W.held sink.new)) }
     ensures cause { HasCause (W.faults sink.old) (W.faults sink.new) result }
-    ensures grows { Lengthens (W.held sink.old) (W.held sink.new) result }
+    ensures grows { Extends (W.held sink.old) (W.held sink.new) result }
 {
     let pair = sender.take_pair();
     output.put(sink, as_octets(&pair))
@@ -61,7 +61,7 @@ pub fn put_idle_pair<W: Sink>(
     ensures err { OnErr result ((f : ℕ) (p : ℕ) (cs : List Column) (owed : ℕ) (start : Option (List ℕ)) → HasSent sender.old f p cs owed start (W.held sink.old) output.old
         → AppendsFront start (W.held sink.new) (capture_octets f p (carried p (with_pairs p cs 1)))) }
     ensures cause { HasCause (W.faults sink.old) (W.faults sink.new) result }
-    ensures grows { Lengthens (W.held sink.old) (W.held sink.new) result }
+    ensures grows { Extends (W.held sink.old) (W.held sink.new) result }
 {
     fill(sender);
     if sender.ready() {
@@ -84,7 +84,7 @@ pub fn put_idle_pairs<W: Sink>(
     ensures err { OnErr result ((f : ℕ) (p : ℕ) (cs : List Column) (owed : ℕ) (start : Option (List ℕ)) → HasSent sender.old f p cs owed start (W.held sink.old) output.old
         → AreWhole p cs → AppendsFront start (W.held sink.new) (capture_octets f p (carried p (with_pairs p cs count)))) }
     ensures cause { HasCause (W.faults sink.old) (W.faults sink.new) result }
-    ensures grows { Lengthens (W.held sink.old) (W.held sink.new) result }
+    ensures grows { Extends (W.held sink.old) (W.held sink.new) result }
 {
     for i in 0..count {
         put_idle_pair(sender, output, sink)?;

@@ -9,6 +9,7 @@ ghost use Rattle.pcs_io.specs.Captures.{History};
 ghost use Rattle.pcs_io.specs.Faults.{HasCause};
 ghost use Rattle.pcs_drive.specs.Seen.{seen};
 ghost use Rattle.pcs_drive.specs.CaptureCommand.{FromBeats, FromCapture, HasHeader};
+ghost use Rattle.pcs_drive.specs.Writing.{Extends};
 ghost use Rattle.pcs_top.specs.Impairing.{impairing, header_octets_of};
 ghost use Rattle.pcs_top.specs.Giving.{IsRead, GivesAll, BreaksGiving};
 
@@ -82,6 +83,7 @@ fn put_next<W: Sink>(
     ensures state { (impairer.new.taken ≡ impairer.old.taken) × (impairer.new.finished ≡ impairer.old.finished) }
     ensures err { OnErr result (BreaksGiving impairer.old (W.held sink.old) output.old (W.held sink.new)) }
     ensures cause { HasCause (W.faults sink.old) (W.faults sink.new) result }
+    ensures grows { Extends (W.held sink.old) (W.held sink.new) result }
 {
     while let Some(beat) = impairer.next() {
         output.put(sink, &beat)?;

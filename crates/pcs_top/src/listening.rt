@@ -6,7 +6,7 @@ ghost use Rattle.pcs_receive.specs.Events.{Event as EventValue};
 ghost use Rattle.pcs_receive.specs.Hearings.{IsAnswer};
 ghost use Rattle.pcs_receive.specs.State.{IsDrained, left_count};
 ghost use Rattle.pcs_drive.specs.CaptureCommand.{BeatsText};
-ghost use Rattle.pcs_drive.specs.Writing.{Wrote};
+ghost use Rattle.pcs_drive.specs.Writing.{Wrote, Extends};
 ghost use Rattle.pcs_top.specs.EventTexts.{is_alignment, IsListening, IsTelling};
 
 use crate::teller::Teller;
@@ -53,6 +53,7 @@ impl<T: Teller> Listening<'_, T> {
             → IsTelling T.Keeps self.old.receiver.now self.old.teller self.old.aligned text beats start (W.held sink.old) output.old
             → AppendsFront start (W.held sink.new) (text.so_far beats)) }
         ensures cause { HasCause (W.faults sink.old) (W.faults sink.new) result }
+        ensures grows { Extends (W.held sink.old) (W.held sink.new) result }
     {
         while let Some(event) = &self.receiver.next() {
             self.aligned = aligned_after(self.aligned, event);

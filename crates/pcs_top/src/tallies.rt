@@ -2,7 +2,7 @@
 ghost use Rattle.std.specs.Prelude.{◌≡◌, ◌++◌, ◌<◌, ◌^◌, OnOk, OnErr, List, map, codes, decimal, length, slice_get};
 ghost use Rattle.pcs_io.specs.Faults.{HasCause};
 ghost use Rattle.pcs_watch.specs.Watching.{seen};
-ghost use Rattle.pcs_drive.specs.Writing.{Puts, BreaksOff};
+ghost use Rattle.pcs_drive.specs.Writing.{Puts, BreaksOff, Extends};
 ghost use Rattle.pcs_top.specs.Reporting.{numbers_text, tally_line, tally_text};
 
 use itoa::Buffer;
@@ -21,6 +21,7 @@ pub fn put_tallies<W: Sink>(
     ensures err { OnErr result (BreaksOff (W.held sink.old) output.old (tally_text (map (seen label tally after leaves) watchers.now))
         (W.held sink.new)) }
     ensures cause { HasCause (W.faults sink.old) (W.faults sink.new) result }
+    ensures grows { Extends (W.held sink.old) (W.held sink.new) result }
 {
     for i in 0..watchers.len() {
         put_tally(output, sink, &watchers[i])?;
@@ -37,6 +38,7 @@ fn put_tally<W: Sink>(
     ensures ok { OnOk result (Puts (W.held sink.old) output.old (tally_line (seen label tally after leaves watcher.now)) (W.held sink.new) output.new) }
     ensures err { OnErr result (BreaksOff (W.held sink.old) output.old (tally_line (seen label tally after leaves watcher.now)) (W.held sink.new)) }
     ensures cause { HasCause (W.faults sink.old) (W.faults sink.new) result }
+    ensures grows { Extends (W.held sink.old) (W.held sink.new) result }
 {
     output.put(sink, b"tally ")?;
     output.put_long(sink, name_of(watcher))?;
@@ -54,6 +56,7 @@ fn put_numbers<W: Sink>(
     ensures ok { OnOk result (Puts (W.held sink.old) output.old (numbers_text (tally watcher.now)) (W.held sink.new) output.new) }
     ensures err { OnErr result (BreaksOff (W.held sink.old) output.old (numbers_text (tally watcher.now)) (W.held sink.new)) }
     ensures cause { HasCause (W.faults sink.old) (W.faults sink.new) result }
+    ensures grows { Extends (W.held sink.old) (W.held sink.new) result }
 {
     let mut i = 0;
     while let Some(number) = number_of(watcher, i) {
@@ -68,6 +71,7 @@ fn put_number<W: Sink>(output: &mut Output, sink: &mut W, number: u64) -> Result
     ensures ok { OnOk result (Puts (W.held sink.old) output.old (codes " " ++ decimal number) (W.held sink.new) output.new) }
     ensures err { OnErr result (BreaksOff (W.held sink.old) output.old (codes " " ++ decimal number) (W.held sink.new)) }
     ensures cause { HasCause (W.faults sink.old) (W.faults sink.new) result }
+    ensures grows { Extends (W.held sink.old) (W.held sink.new) result }
 {
     output.put(sink, b" ")?;
     output.put(sink, Buffer::new().format(number).as_bytes())?;

@@ -4,6 +4,7 @@ ghost use Rattle.pcs_io.specs.Faults.{HasCause};
 ghost use Rattle.pcs_receive.specs.Events.{Event as EventValue};
 ghost use Rattle.pcs_receive.specs.Hearings.{Hearing, IsAnswer, last_event};
 ghost use Rattle.pcs_receive.specs.State.{HasFrame, Stands};
+ghost use Rattle.pcs_drive.specs.Writing.{Extends};
 ghost use Rattle.pcs_top.specs.EventTexts.{EventText, TellsEvent, BreaksAtEvent, EndsEvents, BreaksAfterEvents};
 
 use mac_columns::Column;
@@ -34,7 +35,8 @@ pub trait Teller {
         ensures weight { weight self.new ≤ weight self.old + 32 }
         ensures err { OnErr result ((h : Hearing) (told : EventValue) → Stands receiver.now h → IsAnswer event.now told → last_event h ≡ Some told
             → BreaksAtEvent Keeps self.old told (W.held sink.old) output.old (W.held sink.new)) }
-        ensures cause { HasCause (W.faults sink.old) (W.faults sink.new) result };
+        ensures cause { HasCause (W.faults sink.old) (W.faults sink.new) result }
+        ensures grows { Extends (W.held sink.old) (W.held sink.new) result };
 
     /// Puts the text of the column that the receiver told last, as `tell` does.
     fn tell_column<W: Sink>(
@@ -50,11 +52,13 @@ pub trait Teller {
         ensures weight { weight self.new ≤ weight self.old + 32 }
         ensures err { OnErr result ((h : Hearing) (told : EventValue) → Stands receiver.now h → IsAnswer (Event.Column column.now) told → last_event h ≡ Some told
             → BreaksAtEvent Keeps self.old told (W.held sink.old) output.old (W.held sink.new)) }
-        ensures cause { HasCause (W.faults sink.old) (W.faults sink.new) result };
+        ensures cause { HasCause (W.faults sink.old) (W.faults sink.new) result }
+        ensures grows { Extends (W.held sink.old) (W.held sink.new) result };
 
     /// Puts the text that stands behind all events.
     fn finish<W: Sink>(&mut self, output: &mut Output, sink: &mut W) -> Result<(), Failed>
         ensures ok { OnOk result (EndsEvents Keeps self.old (W.held sink.old) output.old (W.held sink.new) output.new) }
         ensures err { OnErr result (BreaksAfterEvents Keeps self.old (W.held sink.old) output.old (W.held sink.new)) }
-        ensures cause { HasCause (W.faults sink.old) (W.faults sink.new) result };
+        ensures cause { HasCause (W.faults sink.old) (W.faults sink.new) result }
+        ensures grows { Extends (W.held sink.old) (W.held sink.new) result };
 }

@@ -2,7 +2,7 @@ use Rattle.std.proofs.Common.{arith}
 use Rattle.std.proofs.lemmas.Result.{err_from_is_err_and}
 use Rattle.mac_columns.specs.Columns.{columns_of}
 use Rattle.pcs_top.specs.Texts.{column_text}
-use Rattle.pcs_drive.proofs.WritingLemmas.{front-more}
+use Rattle.pcs_drive.proofs.WritingLemmas.{front-more, longer-then}
 use Rattle.pcs_top.proofs.PuttingBlocks.{putting-start, putting-column, putting-end, putting-failed}
 use Rattle.pcs_top.proofs.blocks.put_frame.Goals as goal
 
@@ -15,6 +15,7 @@ pub loop-column-init : goal.loop-column-init
 loop-column-init g c = record {
   putting = putting-start _ _ _ _ _ _ c.new-columns.ensures c.in_ok-make_room.ensures.ok;
   later = c.make_room.ensures.cause.later;
+  grows = c.in_ok-make_room.ensures.grows;
 }
 
 pub loop-column-preserved : goal.loop-column-preserved
@@ -22,6 +23,7 @@ loop-column-preserved g c = record {
   putting = putting-column _ _ _ _ _ _ _ _ _ _ c.in-Some.column c.encode.result c.loop-column.invariant.putting
       c.in-Some.ensures.column c.in-Some.ensures.stands c.encode.ensures.block c.line_of.ensures c.in_ok-put.ensures.ok;
   later = omega (arith, c.put.ensures.cause.later);
+  grows = longer-then _ _ _ c.loop-column.invariant.grows c.in_ok-put.ensures.grows;
 }
 
 pub returns-in_err-put-clause-err : goal.returns-in_err-put-clause-err

@@ -3,7 +3,7 @@ use Rattle.std.proofs.lemmas.Result.{err_from_is_err_and, on_ok_weaker, on_err_w
 use Rattle.rate_match.specs.Kept.{debt}
 use Rattle.pcs_top.specs.Sending.{filled_columns}
 use Rattle.pcs_top.proofs.Framing.{ends-sent, ends-failed, fill-failed, end-is, all-whole}
-use Rattle.pcs_drive.proofs.WritingLemmas.{lengthened}
+use Rattle.pcs_drive.proofs.WritingLemmas.{extended}
 use Rattle.pcs_top.proofs.encode.finish.Goals as goal
 
 pub returns-in_err-fill_last-clause-err : goal.returns-in_err-fill_last-clause-err
@@ -35,9 +35,5 @@ returns-clause-err g c =
     (failed o.form o.period (filled_columns o cs) (debt o.period (reverse cs)) start (c.in_ok-fill_last.ensures.ok o cs start put) whole))
     c.put_idle_pairs.ensures.err
 
-pub returns-in_err-fill_last-clause-grows : goal.returns-in_err-fill_last-clause-grows
-returns-in_err-fill_last-clause-grows g c =
-    let exit = err_from_is_err_and c.from_residual.result c.from_residual.ensures.1 in rw exit.1 c.in_err-fill_last.ensures.grows
-
 pub returns-clause-grows : goal.returns-clause-grows
-returns-clause-grows g c = lengthened _ _ _ _ c.in_ok-fill_last.ensures.grows c.put_idle_pairs.ensures.grows
+returns-clause-grows g c = extended _ _ _ _ c.in_ok-fill_last.ensures.grows c.put_idle_pairs.ensures.grows

@@ -1,6 +1,6 @@
 use Rattle.std.proofs.Common.{sym}
 use Rattle.std.proofs.lemmas.Result.{on_ok_weaker, on_err_weaker}
-use Rattle.pcs_drive.proofs.WritingLemmas.{front-more, put-lengthens}
+use Rattle.pcs_drive.proofs.WritingLemmas.{front-more}
 use Rattle.pcs_top.proofs.idle_pairs.put_pair.Goals as goal
 
 pub returns-clause-ok : goal.returns-clause-ok
@@ -9,6 +9,3 @@ returns-clause-ok g c =
 
 pub returns-clause-err : goal.returns-clause-err
 returns-clause-err g c = on_err_weaker c.put.result (λ breaks h stands start text wrote. front-more start _ text _ (breaks start text wrote)) c.put.ensures.err
-
-pub returns-clause-grows : goal.returns-clause-grows
-returns-clause-grows g c = put-lengthens _ _ _ _ _ _ c.put.ensures.ok c.put.ensures.err

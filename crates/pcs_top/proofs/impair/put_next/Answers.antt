@@ -1,5 +1,6 @@
 use Rattle.std.proofs.Common.{◌+◌, refl, ◌∙◌, arith}
 use Rattle.std.proofs.lemmas.Result.{err_from_is_err_and}
+use Rattle.pcs_drive.proofs.WritingLemmas.{longer-none, longer-then}
 use Rattle.pcs_top.specs.Giving.{with_given}
 use Rattle.pcs_top.proofs.GivingBeats.{gives-beat, beat-breaks, gives-none}
 use Rattle.pcs_top.proofs.impair.put_next.Goals as goal
@@ -10,6 +11,7 @@ loop-beat-init g c = record {
   taken = refl;
   finished = refl;
   later = omega arith;
+  grows = longer-none _;
 }
 
 pub loop-beat-preserved : goal.loop-beat-preserved
@@ -20,6 +22,7 @@ loop-beat-preserved g c = record {
   taken = c.next.ensures.state.0 ∙ c.loop-beat.invariant.taken;
   finished = c.next.ensures.state.1 ∙ c.loop-beat.invariant.finished;
   later = omega (arith, c.loop-beat.invariant.later, c.put.ensures.cause.later);
+  grows = longer-then _ _ _ c.loop-beat.invariant.grows c.in_ok-put.ensures.grows;
 }
 
 pub returns-in_err-put-clause-err : goal.returns-in_err-put-clause-err

@@ -1,5 +1,6 @@
 use Rattle.std.proofs.Common.{◌≡◌, ℕ, ◌-◌, ◌≤◌, List, Option}
 use Rattle.lane_impair.specs.Histories.{Impairing}
+use Rattle.pcs_drive.specs.Writing.{Longer}
 use Rattle.pcs_top.specs.Giving.{with_given, HasGiven}
 use Rattle.pcs_top.proofs.impair.put_next.Given as goal
 
@@ -11,6 +12,7 @@ invariant-loop-beat g l = let held = g.W.Sink.held in
       taken : l.impairer.taken ≡ l.fn.impairer.taken;
       finished : l.impairer.finished ≡ l.fn.impairer.finished;
       later : g.W.Sink.faults l.fn.sink ≤ g.W.Sink.faults l.sink;
+      grows : Longer (held l.fn.sink) (held l.sink);
     }
 
 abbrev pub decreases-loop-beat : goal.decreases-loop-beat

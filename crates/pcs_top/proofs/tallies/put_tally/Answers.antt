@@ -1,5 +1,6 @@
 use Rattle.std.proofs.Common.{None, []}
 use Rattle.std.proofs.lemmas.Result.{err_from_is_err_and}
+use Rattle.pcs_drive.proofs.WritingLemmas.{longer-then}
 use Rattle.pcs_drive.proofs.PuttingLong.{breaks-before}
 use Rattle.pcs_top.proofs.TallyLines.{line-put, line-breaks-name, line-breaks-numbers, line-breaks-end}
 use Rattle.pcs_top.proofs.tallies.put_tally.Goals as goal
@@ -31,3 +32,8 @@ pub returns-clause-ok : goal.returns-clause-ok
 returns-clause-ok g c =
     let name = rw (c.name_of.ensures) at c.in_ok-put_long.ensures.ok in
     line-put _ _ _ _ _ _ _ _ _ _ _ _ _ _ c.in_ok-put.ensures.ok name c.in_ok-put_numbers.ensures.ok c.in_ok-put-2.ensures.ok
+
+pub returns-clause-grows : goal.returns-clause-grows
+returns-clause-grows g c =
+    longer-then _ _ _ c.in_ok-put.ensures.grows
+    (longer-then _ _ _ c.in_ok-put_long.ensures.grows (longer-then _ _ _ c.in_ok-put_numbers.ensures.grows c.in_ok-put-2.ensures.grows))

@@ -17,4 +17,5 @@ returns g c =
       ok = on_ok_weaker c.put_line.result (puts-piece line c.args.parser.now _ c.line.ensures.line block_text piece one-frame-line (λ x parsers. ⊤) c.args.self.now _ _ _ _) c.put_line.ensures.ok;
       err = on_err_weaker c.put_line.result (breaks-piece line c.args.parser.now _ c.line.ensures.line block_text piece one-frame-line (λ x parsers. ⊤) c.args.self.now _ _ _) c.put_line.ensures.err;
       cause = c.put_line.ensures.cause;
+      grows = c.put_line.ensures.grows;
     }

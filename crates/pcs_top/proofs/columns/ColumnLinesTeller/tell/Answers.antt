@@ -1,6 +1,7 @@
 use Rattle.std.proofs.Common.{arith, refl, subst}
 use Rattle.std.proofs.lemmas.Result.{on_ok_weaker, on_err_weaker}
 use Rattle.pcs_receive.specs.Hearings.{IsAnswer}
+use Rattle.pcs_drive.proofs.WritingLemmas.{longer-none}
 use Rattle.pcs_top.proofs.ColumnText.{tells-group, tells-other}
 use Rattle.pcs_top.proofs.columns.ColumnLinesTeller.tell.Goals as goal
 
@@ -23,4 +24,5 @@ returns-in_default g c = record {
   ok = λ h told stands is last. tells-other (λ t. t.refill) _ _ c.args.event.now told is _ _ refl c.in_default.not-Group c.in_default.not-Column;
   err = tt;
   cause = record { later = omega arith; failed = tt };
+  grows = longer-none _;
 }

@@ -1,4 +1,5 @@
 use Rattle.std.proofs.Common.{arith}
+use Rattle.pcs_drive.proofs.WritingLemmas.{longer-none}
 use Rattle.pcs_top.proofs.GoodFrames.{tells-frame, breaks-at-frame, tells-other}
 use Rattle.std.proofs.lemmas.Result.{on_ok_weaker, on_err_weaker}
 use Rattle.pcs_top.proofs.decode.FrameLinesTeller.tell.Goals as goal
@@ -17,4 +18,5 @@ returns g c = record {
   ok = λ h told stands is last. tells-other _ _ c.args.event.now told _ _ c.in_default.not-Frame is;
   err = tt;
   cause = record { later = omega arith; failed = tt };
+  grows = longer-none _;
 }

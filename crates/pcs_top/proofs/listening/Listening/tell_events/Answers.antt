@@ -3,11 +3,12 @@ use Rattle.std.proofs.lemmas.Result.{err_from_is_err_and}
 use Rattle.pcs_receive.specs.State.{left_count}
 use Rattle.pcs_drive.specs.CaptureCommand.{BeatsText}
 use Rattle.pcs_receive.specs.declared.event.Event.TheVariants as event
+use Rattle.pcs_drive.proofs.WritingLemmas.{longer-none, longer-then}
 use Rattle.pcs_top.proofs.Telling.{aligned-by, telling-next, telling-failed, telling-all, telling-wrote}
 use Rattle.pcs_top.proofs.listening.Listening.tell_events.Goals as goal
 
 pub loop-event-init : goal.loop-event-init
-loop-event-init g c = record { telling = λ text beats start begun. begun; weight = c.requires.ready; beats = refl; later = omega arith }
+loop-event-init g c = record { telling = λ text beats start begun. begun; weight = c.requires.ready; beats = refl; later = omega arith; grows = longer-none _ }
 
 pub loop-column-init : goal.loop-column-init
 loop-column-init g c =
@@ -22,6 +23,7 @@ loop-column-init g c =
       weight = omega (arith, c.loop-event.invariant.weight, c.tell.ensures.weight, fewer refl, ap (λ a. a.beats) c.next.ensures.same);
       beats = ap (λ a. a.beats) c.next.ensures.same ∙ c.loop-event.invariant.beats;
       later = omega (arith, c.loop-event.invariant.later, c.tell.ensures.cause.later);
+      grows = longer-then _ _ _ c.loop-event.invariant.grows c.in_ok-tell.ensures.grows;
       fewer = omega arith;
     }
 
@@ -39,6 +41,7 @@ loop-column-preserved g c =
       weight = omega (arith, c.loop-column.invariant.weight, c.tell_column.ensures.weight, fewer refl, ap (λ a. a.beats) c.next_column.ensures.same);
       beats = ap (λ a. a.beats) c.next_column.ensures.same ∙ c.loop-column.invariant.beats;
       later = omega (arith, c.loop-column.invariant.later, c.tell_column.ensures.cause.later);
+      grows = longer-then _ _ _ c.loop-column.invariant.grows c.in_ok-tell_column.ensures.grows;
       fewer = omega (arith, c.loop-column.invariant.fewer, fewer refl);
     }
 

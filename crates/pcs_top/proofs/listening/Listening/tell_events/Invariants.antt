@@ -1,6 +1,7 @@
 use Rattle.std.proofs.Common.{◌≡◌, ℕ, ◌+◌, ◌*◌, ◌≤◌, List, Option}
 use Rattle.pcs_receive.specs.State.{left_count}
 use Rattle.pcs_drive.specs.CaptureCommand.{BeatsText}
+use Rattle.pcs_drive.specs.Writing.{Longer}
 use Rattle.pcs_top.specs.EventTexts.{IsTelling}
 use Rattle.pcs_top.proofs.listening.Listening.tell_events.Given as goal
 
@@ -13,6 +14,7 @@ invariant-loop-event g l = let Keeps = g.T.Teller.Keeps in let held = g.W.Sink.h
       weight : g.T.Teller.weight l.self.teller + 32 * left_count l.self.receiver.now ≤ 6400 * l.self.receiver.now.aligner.beats;
       beats : l.self.receiver.now.aligner.beats ≡ l.fn.self.receiver.now.aligner.beats;
       later : g.W.Sink.faults l.fn.sink ≤ g.W.Sink.faults l.sink;
+      grows : Longer (held l.fn.sink) (held l.sink);
     }
 
 abbrev pub decreases-loop-event : goal.decreases-loop-event
@@ -27,6 +29,7 @@ invariant-loop-column g l = let Keeps = g.T.Teller.Keeps in let held = g.W.Sink.
       weight : g.T.Teller.weight l.self.teller + 32 * left_count l.self.receiver.now ≤ 6400 * l.self.receiver.now.aligner.beats;
       beats : l.self.receiver.now.aligner.beats ≡ l.fn.self.receiver.now.aligner.beats;
       later : g.W.Sink.faults l.fn.sink ≤ g.W.Sink.faults l.sink;
+      grows : Longer (held l.fn.sink) (held l.sink);
       fewer : left_count l.self.receiver.now ≤ left_count l.initial.self.receiver.now;
     }
 

@@ -11,4 +11,5 @@ returns g c = let line = λ (parser : BlockParserState). parser.line in record {
   ok = on_ok_weaker c.put_line.result (puts-by line c.args.parser.now _ c.line.ensures HasTaken unblock_text _ _ _ _ _) c.put_line.ensures.ok;
   err = on_err_weaker c.put_line.result (breaks-by line c.args.parser.now _ c.line.ensures HasTaken unblock_text _ _ _ _) c.put_line.ensures.err;
   cause = c.put_line.ensures.cause;
+  grows = c.put_line.ensures.grows;
 }
