@@ -22,7 +22,7 @@ impl Source for Noting {
 
     ghost ended = { λ s. s.source.ended };
 
-    ghost told = { λ s. record { given = s.source.given; left = None } };
+    ghost told = { λ s. record { given = s.source.given; earlier = s.source.earlier; left = None } };
 
     fn read(&mut self, into: &mut [u8]) -> Result<usize, Failed> {
         let _ = self.lengths.push(into.len());

@@ -1,5 +1,5 @@
 -- Headers and records by their parts, and with more octets behind them.
-use Rattle.std.proofs.Common.{◌≡◌, ℕ, ◌+◌, ◌<◌, ◌≤◌, ◌⊎◌, Bool, not, ◌&&◌, ◌==◌, true, false, nat_lt, List, ◌++◌, length, take, drop, Option, Some, None, Result, Ok, Err, refl, ap, ap₂, ◌∙◌, inl, inr, cond, arith, length-append, length-drop, length-take}
+use Rattle.std.proofs.Common.{◌≡◌, ℕ, ◌+◌, ◌<◌, ◌≤◌, ◌⊎◌, Bool, not, ◌&&◌, ◌==◌, true, false, nat_lt, List, ◌++◌, length, take, drop, Option, Some, None, Result, Ok, Err, refl, sym, ap, ap₂, ◌∙◌, inl, inr, cond, arith, length-append, length-drop, length-take}
 use Rattle.std.specs.Prelude.{IfOk}
 use Rattle.std.proofs.lemmas.Bool.{cond-true, cond-false, cond_both}
 use Rattle.std.proofs.lemmas.Bool.Decides.{nat_tests}
@@ -11,7 +11,7 @@ use Rattle.pcap_frames.specs.declared.number.Order.{Order}
 use Rattle.pcap_frames.specs.declared.number.Order.TheVariants.{Little, Big}
 use Rattle.pcap_frames.specs.declared.fault.RecordKind.{RecordKind}
 use Rattle.pcap_frames.specs.declared.fault.RecordKind.TheVariants.{Long, Cut}
-use Rattle.pcap_frames.specs.Pcap.{number, is_magic, order_of, linked, order_in, settled, header_at, Whole, Wrong, Short, recorded, original, frame_length, frame_at, record_at, Record, Refused, Open}
+use Rattle.pcap_frames.specs.Pcap.{number, is_magic, order_of, linked, order_in, settled, header_at, Whole, Wrong, Short, recorded, original, frame_length, frame_at, RecordAt, record_at, Record, Refused, Open, is_over}
 
 not-less : (n m : ℕ) → m ≤ n → nat_lt n m ≡ false
 not-less n m h = grind (arith, nat_tests)
@@ -52,6 +52,10 @@ pub frame-whole : (count : ℕ) (piece rest : List ℕ) → length piece ≡ cou
 frame-whole count piece rest whole =
     cond-false (nat_lt (length (piece ++ rest)) count) _ _ (not-less _ _ (omega (arith, length-append piece rest)))
     ∙ ap₂ Record (take-append-le count piece rest (omega arith) ∙ take_all count piece (omega arith)) (rest-behind count piece rest whole)
+
+-- too few octets for the lengths of a record
+pub record-few : (order : Order) (short : Bool) (octets : List ℕ) → length octets < 16 → record_at order short octets ≡ Open
+record-few order short octets few = cond-true (nat_lt (length octets) 16) _ _ (less _ _ few)
 
 pub frame-open : (count : ℕ) (octets : List ℕ) → length octets < count → frame_at (Ok count) octets ≡ Open
 frame-open count octets few = cond-true (nat_lt (length octets) count) _ _ (less _ _ few)
@@ -95,6 +99,15 @@ refused-more order short xs more kind e = elim (chosen (nat_lt (length xs) 16) _
       | inl p ↦ absurd (let h : Open ≡ Refused kind = p.1 in cc)
       | inr p ↦ absurd (let h : Record (take count ys) (drop count ys) ≡ Refused kind = p.1 in cc)
     ]
+
+-- what is over stays over, whatever follows
+pub still-over : (order : Order) (short : Bool) (xs more : List ℕ) → is_over (record_at order short xs) ≡ true → record_at order short (xs ++ more) ≡ Open → ⊥
+still-over order short xs more over none = by (record_at order short xs) refl over
+  where
+    by : (at : RecordAt) → record_at order short xs ≡ at → is_over at ≡ true → ⊥
+    by (Record frame rest) e is = let h : Open ≡ Record frame (rest ++ more) = sym none ∙ record-more order short xs more frame rest e in cc
+    by (Refused kind) e is = let h : Open ≡ Refused kind = sym none ∙ refused-more order short xs more kind e in cc
+    by Open e is = let h : false ≡ true = is in cc
 
 frame-shorter : (r : Result ℕ RecordKind) (xs frame rest : List ℕ) → frame_at r xs ≡ Record frame rest → length rest ≤ length xs
 frame-shorter (Err kind) xs frame rest e = absurd (let h : Refused kind ≡ Record frame rest = e in cc)

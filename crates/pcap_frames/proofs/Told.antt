@@ -10,7 +10,7 @@ use Rattle.pcap_frames.specs.declared.fault.PcapFault.TheVariants as fault
 use Rattle.pcap_frames.specs.declared.reader.Standing.{Standing}
 use Rattle.pcap_frames.specs.declared.reader.Standing.TheVariants as reader
 use Rattle.pcap_frames.specs.Pcap.{record_at, Record, Begins, Opens}
-use Rattle.pcap_frames.specs.Finding.{NextFault}
+use Rattle.pcap_frames.specs.Finding.{NextFault, IsReadOpen}
 use Rattle.pcap_frames.specs.Histories.{PcapState, History, Going, Stands, StandsAt, Tells, Advances, Calls, Keeps, Nexts, IsNearerEnd, told, answer_of}
 use Rattle.pcap_frames.proofs.Fronts.{record-more, record-shorter, record-fits, header-more}
 
@@ -24,7 +24,7 @@ begins-record : (order : Order) (short : Bool) (xs : List ℕ) (frames : List (L
 begins-record order short xs [] rest frame after b e = (after, ap (record_at order short) b ∙ e, refl)
 begins-record order short xs (first ∷ frames) rest frame after b e = (b.0, b.1, begins-record order short b.0 frames rest frame after b.2 e)
 
-opens-more : (order : Order) (short : Bool) (xs : List ℕ) (frames : List (List ℕ)) (rest more : List ℕ) → Opens order short xs frames rest → Opens order short (xs ++ more) frames (rest ++ more)
+pub opens-more : (order : Order) (short : Bool) (xs : List ℕ) (frames : List (List ℕ)) (rest more : List ℕ) → Opens order short xs frames rest → Opens order short (xs ++ more) frames (rest ++ more)
 opens-more order short xs frames rest more o = (o.0 ++ more, header-more xs more order o.0 o.1, begins-more order short o.0 frames rest more o.2)
 
 opens-record : (order : Order) (short : Bool) (xs : List ℕ) (frames : List (List ℕ)) (rest frame after : List ℕ) → Opens order short xs frames rest → record_at order short rest ≡ Record frame after
@@ -174,11 +174,13 @@ stands-at : (old : PcapState) (h : History) (order : Order) → Stands old h →
 stands-at old h order s o = subst (λ p. StandsAt p old.standing h old.buffer.unused) o s.at
 
 pub nexts : (order : Order) (old new : PcapState) (before now : Told) (ended : Bool) (r : Result Bool PcapFault) → old.order ≡ Some order → Keeps old new
-    → ((o : Order) → old.order ≡ Some o → Calls old.standing o old new before now ended r) → IsWithin new → Nexts old new before now ended (answer_of r new.piece)
-nexts order old new before now ended r is k a most = record {
+    → ((o : Order) → old.order ≡ Some o → Calls old.standing o old new before now ended r)
+    → ((o : Order) → old.order ≡ Some o → IsReadOpen (record_at o old.short) old.buffer.unused before now) → IsWithin new → Nexts old new before now ended (answer_of r new.piece)
+nexts order old new before now ended r is k a asks most = record {
   history = λ h o s e. told-at old.standing o old new h before now ended r most s e (stands-at old h o s e) k (a o e);
   order = k.order;
   nearer = nearer-at old.standing order old new before now ended r (a order is);
+  asks = asks;
 }
 
 pub some-order : (o : Option Order) → IsSome o → (order : Order) × (o ≡ Some order)
@@ -191,6 +193,14 @@ advances old new before now ended r o going is a order e =
     let both : Some o ≡ Some order = sym is ∙ e in
     let same : o ≡ order = cc in
     subst (λ s. Calls s order old new before now ended r) (sym going) (subst (λ p. Advances p old new before now ended r) same a)
+
+-- the reader knows one order
+pub order-asked : (known : Option Order) (short : Bool) (unused : List ℕ) (before now : Told) (o : Order) → known ≡ Some o → IsReadOpen (record_at o short) unused before now
+    → (order : Order) → known ≡ Some order → IsReadOpen (record_at order short) unused before now
+order-asked known short unused before now o is asked order e =
+    let both : Some o ≡ Some order = sym is ∙ e in
+    let same : o ≡ order = cc in
+    subst (λ p. IsReadOpen (record_at p short) unused before now) same asked
 
 fits-true : (standing : Standing) (order : Order) (old new : PcapState) (before now : Told) (ended : Bool) → Calls standing order old new before now ended (Ok true) → length new.piece ≤ 16384
 fits-true reader.Going order old new before now ended a = record-fits order old.short (old.buffer.unused ++ a.0.0) new.piece new.buffer.unused a.0.2

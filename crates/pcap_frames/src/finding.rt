@@ -2,7 +2,7 @@
 ghost use Rattle.std.specs.Prelude.{◌≡◌, ◌<◌, ◌≤◌, ◌+◌, ◌-◌, ◌^◌, ℕ, length, IsErrOf, IfOk, MatchResult};
 ghost use Rattle.pcs_io.specs.Faults.{HasCause, Rose};
 ghost use Rattle.pcap_frames.specs.Pcap.{is_over, order_in, frame_length, record_at};
-ghost use Rattle.pcap_frames.specs.Finding.{FindsHeader, FindsRecord, Finds, FailsOpen};
+ghost use Rattle.pcap_frames.specs.Finding.{FindsHeader, FindsRecord, Finds, FailsOpen, IsReadOpen, IsReadShort};
 
 use crate::number::{Order, number, order_of};
 use crate::{PcapFault, RecordKind};
@@ -38,6 +38,7 @@ pub fn read_header<S: Source>(
 ) -> Result<Order, PcapFault>
     requires taken { input.old.taken ≤ input.old.limit }
     ensures finds { FindsHeader input.old input.new (S.told source.old) (S.told source.new) (S.ended source.new) result }
+    ensures asks { IsReadShort input.old.unused (S.told source.old) (S.told source.new) }
     ensures taken { input.new.taken ≤ input.new.limit }
     ensures limit { input.new.limit ≡ input.old.limit }
     ensures unused { (n : ℕ) → n + length input.old.unused ≤ input.old.taken → n + length input.new.unused ≤ input.new.taken }
@@ -92,6 +93,7 @@ pub fn read_record<S: Source>(
     requires limit { input.old.limit < 2 ^ 64 }
     requires records { records + length input.old.unused ≤ input.old.taken }
     ensures finds { FindsRecord (record_at order short) records input.old input.new (S.told source.old) (S.told source.new) (S.ended source.new) piece.new.items result }
+    ensures asks { IsReadOpen (record_at order short) input.old.unused (S.told source.old) (S.told source.new) }
     ensures taken { input.new.taken ≤ input.new.limit }
     ensures later { S.faults source.old ≤ S.faults source.new }
     ensures read { IsErrOf result PcapFault.Read → Rose (S.faults source.old) (S.faults source.new) }
@@ -129,6 +131,7 @@ fn find_record<S: Source>(
     ensures finds { MatchResult result
         (Finds (record_at order short) input.old input.new (S.told source.old) (S.told source.new) (S.ended source.new) piece.new.items)
         (λ _. FailsOpen (record_at order short) input.old input.new (S.told source.old) (S.told source.new)) }
+    ensures asks { IsReadOpen (record_at order short) input.old.unused (S.told source.old) (S.told source.new) }
     ensures taken { input.new.taken ≤ input.new.limit }
     ensures cause { HasCause (S.faults source.old) (S.faults source.new) result }
 {

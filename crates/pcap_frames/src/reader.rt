@@ -1,5 +1,5 @@
 // The reader of pcap files.
-ghost use Rattle.std.specs.Prelude.{◌≡◌, ◌≤◌, ◌⊎◌, true, Ok, length, IfOk, IsErrOf, IsSome};
+ghost use Rattle.std.specs.Prelude.{◌≡◌, ◌≤◌, ◌⊎◌, true, Ok, [], length, IfOk, IsErrOf, IsSome};
 ghost use Rattle.pcs_io.specs.Faults.{Rose};
 
 use crate::PcapFault;
@@ -46,6 +46,7 @@ impl PcapReader {
     ghost use Rattle.pcap_frames.specs.contracts.reader.PcapReader.{the_row};
     ghost use Rattle.pcap_frames.specs.declared.number.Order.{Order};
     ghost use Rattle.pcap_frames.specs.Pcap.{is_over, record_at};
+    ghost use Rattle.pcap_frames.specs.Finding.{IsReadOpen, IsReadShort};
     ghost use Rattle.pcap_frames.specs.Histories.{History, Stands, HeaderAnswers, Nexts, Calls, Keeps, opened, header_told, FitsFrame, answer_of, content};
 
     /// A reader that takes at most `limit` octets. Where `short` is set, records of cut frames are
@@ -71,6 +72,7 @@ impl PcapReader {
         ensures answers { (h : History) → Stands self.old h → (got : List ℕ)
             × HeaderAnswers h.limit got (S.told source.old) (S.told source.new) (S.ended source.new) result
             × Stands self.new (header_told h got result) }
+        ensures asks { (h : History) → Stands self.old h → IsReadShort [] (S.told source.old) (S.told source.new) }
         ensures order { IfOk result (λ _. IsSome self.new.order) }
         ensures later { S.faults source.old ≤ S.faults source.new }
         ensures read { IsErrOf result PcapFault.Read → Rose (S.faults source.old) (S.faults source.new) }
@@ -128,6 +130,7 @@ impl PcapReader {
     fn advance<S: Source>(&mut self, source: &mut S) -> Result<bool, PcapFault>
         requires { IsSome self.old.order }
         ensures calls { (order : Order) → self.old.order ≡ Some order → Calls self.old.standing order self.old self.new (S.told source.old) (S.told source.new) (S.ended source.new) result }
+        ensures asks { (order : Order) → self.old.order ≡ Some order → IsReadOpen (record_at order self.old.short) self.old.buffer.unused (S.told source.old) (S.told source.new) }
         ensures keeps { Keeps self.old self.new }
         ensures within { self.new.buffer.taken ≤ self.new.buffer.limit }
         ensures later { S.faults source.old ≤ S.faults source.new }

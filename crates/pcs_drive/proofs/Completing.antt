@@ -1,5 +1,5 @@
 -- An input in the grammar is turned into its text, by a command on lines or on beats behind a header.
-use Rattle.std.proofs.Common.{◌≡◌, ℕ, ◌^◌, ◌<◌, ◌⊎◌, inl, inr, true, List, length, Some, subst, refl, arith}
+use Rattle.std.proofs.Common.{◌≡◌, ℕ, ◌^◌, ◌<◌, ◌⊎◌, inl, inr, true, List, length, subst, refl}
 use Rattle.std.specs.Prelude.{◌≢◌}
 use Rattle.pcs_io.specs.Captures.{FrontAt, OpensWholeBy}
 use Rattle.pcs_io.specs.Grammars.{LineAt, IsGrammar, AreLines}

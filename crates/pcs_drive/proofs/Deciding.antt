@@ -1,5 +1,5 @@
 -- The input decides how a command ends.
-use Rattle.std.proofs.Common.{◌≡◌, ℕ, ◌+◌, ◌-◌, ◌^◌, ◌<◌, ◌≤◌, ◌⊎◌, inl, inr, Bool, true, false, List, [], ◌∷◌, ◌++◌, length, take, Option, Some, IfSome, sym, ◌∙◌, ap, ap₂, subst, refl, append-nil, append_assoc, length-append, arith}
+use Rattle.std.proofs.Common.{◌≡◌, ℕ, ◌+◌, ◌-◌, ◌^◌, ◌<◌, ◌≤◌, ◌⊎◌, inl, inr, Bool, true, false, List, [], ◌∷◌, ◌++◌, length, take, IfSome, sym, ◌∙◌, ap, ap₂, subst, refl, append-nil, append_assoc, length-append, arith}
 use Rattle.std.specs.Prelude.{◌≢◌, nat_lt}
 use Rattle.std.proofs.lemmas.Bool.{lt-ltb, le-ltb}
 use Rattle.std.proofs.Math.Seq.{take-append-add}
@@ -17,7 +17,7 @@ use Rattle.pcs_drive.specs.LineCommand.{Converted, IsRefused}
 use Rattle.pcs_drive.specs.CaptureCommand.{TextBehind, TookAllBeatsBy, FromBeatsBy, FromFileBy, IsNoHeaderBy, outcome_at_end}
 use Rattle.pcs_drive.specs.Deciding.{IsSettled, Given, GaveInput, LeftInput, Decides, LinesDecide, BeatsDecide}
 use Rattle.pcs_drive.specs.declared.outcome.Outcome.{Outcome}
-use Rattle.pcs_drive.specs.declared.outcome.Outcome.TheVariants.{Done, ReadFault, WriteFault, NoMemory, BadLine, BadHeader, TooTight, Cut, NotAligned, TooLong}
+use Rattle.pcs_drive.specs.declared.outcome.Outcome.TheVariants.{Done, ReadFault, WriteFault, NoMemory, BadLine, BadHeader, Cut, NotAligned, TooLong}
 use Rattle.pcs_drive.proofs.HeadersStay.{Stays, wrong-more, whole-more}
 
 pub nothing-left : (rest : List ℕ) → length rest ≤ 0 → rest ≡ []

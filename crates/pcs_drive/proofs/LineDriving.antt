@@ -1,5 +1,5 @@
 -- Lines that a task takes, named by the parsers that had them.
-use Rattle.std.proofs.Common.{◌≡◌, ℕ, ◌^◌, List, [], ◌∷◌, ◌++◌, map, Option, ap, sym, subst, refl, ◌∙◌}
+use Rattle.std.proofs.Common.{◌≡◌, ℕ, ◌^◌, List, [], ◌∷◌, ◌++◌, map, Option, ap, sym, subst, refl, ◌∙◌, inl}
 use Rattle.std.proofs.lemmas.List.{map-append}
 use Rattle.pcs_io.specs.Octets.{Told, AppendsFront}
 use Rattle.pcs_io.specs.Grammars.{LineAt}
@@ -25,6 +25,7 @@ module _ {T P X : Type 0} (Keeps : T → List P → Type 0) (line : P → X) whe
     took = gives-none before;
     wrote = wrote;
     keeps = ([], refl, keeps);
+    asked = inl refl;
   }
 
   -- one parser more

@@ -1,7 +1,7 @@
 -- What a reader's calls tell, for either kind of file.
-use Rattle.std.proofs.Common.{◌≡◌, ℕ, ◌/◌, Bool, List, length, refl, Option, Result}
+use Rattle.std.proofs.Common.{◌≡◌, ◌/◌, Bool, length, refl, Result}
 use Rattle.pcs_io.specs.Octets.{Told}
-use Rattle.pcs_io.specs.Captures.{History, BeatsState, Stands, Going, Tells, TellsBy, Passes, PassesBy, levels_header_at}
+use Rattle.pcs_io.specs.Captures.{History, BeatsState, Stands, Going, Tells, TellsBy, IsReadAfterBy, Passes, PassesBy, header_at, levels_header_at}
 use Rattle.pcs_io.specs.declared.header.Header.{Header}
 use Rattle.pcs_io.specs.declared.levels_header.LevelsHeader.{LevelsHeader}
 use Rattle.pcs_io.specs.declared.beats.Front.TheVariants as front
@@ -35,3 +35,12 @@ pub tells-of : (kind : FileKind) (header : HeaderOf kind) (old new : BeatsState)
     → (k : History) → Stands old k → TellsBy (at_of kind) k.course k header old new before now ended answer
 tells-of Captures header old new before now ended answer read tells levels k s = tells k header s read
 tells-of LevelFiles header old new before now ended answer read tells levels k s = levels k header s read
+
+-- what had come when it read last
+pub asks-of : (kind : FileKind) (header : HeaderOf kind) (old : BeatsState) (before now : Told) → old.front ≡ front_of kind header
+    → ((k : History) (header : Header) → Stands old k → old.front ≡ front.Read header → k.course ≡ Going → IsReadAfterBy header_at k header before now)
+    → ((k : History) (header : LevelsHeader) → Stands old k → old.front ≡ front.ReadLevels header → k.course ≡ Going
+    → IsReadAfterBy levels_header_at k header before now)
+    → (k : History) → Stands old k → k.course ≡ Going → IsReadAfterBy (at_of kind) k header before now
+asks-of Captures header old before now read asks levels k s going = asks k header s read going
+asks-of LevelFiles header old before now read asks levels k s going = levels k header s read going

@@ -1,8 +1,8 @@
 -- What a command on captures or on files of levels answers, by its header and by what comes behind it.
-use Rattle.std.proofs.Common.{◌≡◌, ℕ, ◌+◌, ◌^◌, ◌<◌, ◌≤◌, Bool, List, [], ◌++◌, length, Option, Some, None, Ok, Err, refl, sym, subst, arith, append-nil, inl, inr}
+use Rattle.std.proofs.Common.{◌≡◌, ℕ, ◌+◌, ◌^◌, ◌<◌, ◌≤◌, Bool, List, [], ◌++◌, length, Option, Some, None, Ok, Err, refl, sym, subst, arith, append-nil, append_assoc, inl, inr, ap, ◌∙◌}
 use Rattle.std.specs.Prelude.{IfSome}
 use Rattle.pcs_io.specs.Octets.{Told, Gives}
-use Rattle.pcs_io.specs.Captures.{FrontAt, Short, header_at, levels_header_at, History, Going, BeatsState, Stands, HeaderAnswersBy, HeaderAnswers, header_told, opened}
+use Rattle.pcs_io.specs.Captures.{FrontAt, Short, IsReadShort, header_at, levels_header_at, History, Going, BeatsState, Stands, HeaderAnswersBy, HeaderAnswers, header_told, opened}
 use Rattle.pcs_io.specs.Histories.{octets_ahead}
 use Rattle.pcs_io.specs.declared.header.Header.{Header}
 use Rattle.pcs_io.specs.declared.levels_header.LevelsHeader.{LevelsHeader}
@@ -14,9 +14,9 @@ use Rattle.pcs_io.proofs.HeaderSizes.{short-header, few-taken}
 use Rattle.pcs_io.proofs.Told.{takes-after, takes-consumed}
 use Rattle.pcs_drive.specs.Seen.{Seen, Written, ReadFailed}
 use Rattle.pcs_drive.specs.Outcomes.{outcome_of_capture}
-use Rattle.pcs_drive.specs.CaptureCommand.{BeatsText, TextBehind, CaptureText, LevelsText, HasOpenedBy, HasOpened, HasOpenedLevels, TookBeatsBy, TookAllBeatsBy, BrokeOffBy, FromBeatsBy, FromBeats, FromLevelBeats, FromFileBy, FromCapture, FromLevels}
+use Rattle.pcs_drive.specs.CaptureCommand.{BeatsText, TextBehind, CaptureText, LevelsText, HasOpenedBy, HasOpened, HasOpenedLevels, TookBeatsBy, TookAllBeatsBy, BrokeOffBy, KeptUpBy, FromBeatsBy, FromBeats, FromLevelBeats, FromFileBy, FromCapture, FromLevels}
 use Rattle.pcs_drive.specs.declared.outcome.Outcome.{Outcome}
-use Rattle.pcs_drive.specs.declared.outcome.Outcome.TheVariants.{Done, ReadFault, WriteFault, NoMemory, BadLine, BadHeader, TooTight, Cut, NotAligned, TooLong}
+use Rattle.pcs_drive.specs.declared.outcome.Outcome.TheVariants.{Done, ReadFault, WriteFault, NoMemory, Cut, NotAligned, TooLong}
 use Rattle.pcs_drive.proofs.Copying.{rose-after}
 use Rattle.pcs_drive.proofs.LevelsFront.{short-levels, few-levels}
 
@@ -53,10 +53,10 @@ module _ {X : Type 0} (at : List ℕ → FrontAt X) (read_as : X → Front) wher
   pub read-header : ((x : BeatsState) (h : History) (header : X) → Stands x h → x.front ≡ read_as header → h.beats ≡ [] → h.course ≡ Going
       → length h.octets ≤ 32 + length x.reader.buffer.unused)
       → (beats : BeatsState) (header : X) (before now : Told) (ended : Bool) (got : List ℕ)
-      → HeaderAnswersBy at (2 ^ 40) got before now ended (Ok header) → Stands beats (header_told (opened (2 ^ 40)) got (Ok header))
+      → HeaderAnswersBy at (2 ^ 40) got before now ended (Ok header) → Stands beats (header_told (opened (2 ^ 40)) got (Ok header)) → IsReadShort at before now
       → beats.front ≡ read_as header → octets_ahead beats.reader ≤ beats.reader.buffer.limit → length beats.reader.buffer.unused ≤ 65536
       → HasOpenedBy at read_as beats header before now
-  read-header few beats header before now ended got told stands read ahead waits =
+  read-header few beats header before now ended got told stands asked read ahead waits =
       let h = header_told (opened (2 ^ 40)) got (Ok header) in
       record {
         history = h;
@@ -71,12 +71,13 @@ module _ {X : Type 0} (at : List ℕ → FrontAt X) (read_as : X → Front) wher
         };
         limit = refl;
         took = told.0;
+        asked = asked;
         few = omega (arith, few beats h header stands read refl refl, waits);
       }
 
 -- what is answered behind the header is the answer for the whole file
 module _ {X : Type 0} (at : List ℕ → FrontAt X) (seen : Seen) (mid : Told) (front_octets : List ℕ) (took : Gives seen.told_before mid front_octets)
-    (reads_mid : ℕ) (no_fewer : seen.reads_before ≤ reads_mid) where
+    (asked : IsReadShort at seen.told_before mid) (reads_mid : ℕ) (no_fewer : seen.reads_before ≤ reads_mid) where
   abbrev pub later : Seen
   later = record seen { told_before = mid; reads_before = reads_mid }
 
@@ -106,12 +107,21 @@ module _ {X : Type 0} (at : List ℕ → FrontAt X) (seen : Seen) (mid : Told) (
       inl (front_octets ++ b.0, b.1, takes-after seen.told_before mid seen.told_after front_octets b.0 took b.2, b.3, b.4, b.5)
   broke-off text limit header beats (inr b) = inr (b.0, took-all-beats limit header beats b.0 b.1, b.2)
 
+  kept-up : (text : BeatsText) (header : X) → KeptUpBy at text front_octets header later → KeptUpBy at text [] header seen
+  kept-up text header (inr (early, told, up)) =
+      inr (front_octets ++ early, told ∙ ap (λ xs. xs ++ early) took.0 ∙ append_assoc seen.told_before.given front_octets early, up)
+  kept-up text header (inl same) = by asked
+    where
+      by : IsReadShort at seen.told_before mid → KeptUpBy at text [] header seen
+      by (inl none) = inl (same ∙ none)
+      by (inr (early, told, short)) = inr (early, ap (λ o. o.earlier) same ∙ told, inl short)
+
   whole : (text : BeatsText) (limit : ℕ) (header : X) (outcome : Outcome) → FromBeatsBy at text front_octets limit header later outcome
       → FromBeatsBy at text [] limit header seen outcome
   unfolding took-beats
   whole text limit header Done d = (d.0, took-all-beats limit header d.0 0 d.1, d.2, d.3)
   whole text limit header ReadFault d = (d.0, d.1, rose-after seen.reads_before reads_mid seen.reads_after no_fewer d.2, took-beats header d.0 d.1 d.3, d.4, d.5)
-  whole text limit header WriteFault d = (d.0, d.1, broke-off text limit header d.0 d.2)
+  whole text limit header WriteFault d = (d.0, d.1, broke-off text limit header d.0 d.2, kept-up text header d.3)
   whole text limit header (Cut rest) d = (d.0, d.1, took-all-beats limit header d.0 rest d.2, d.3)
   whole text limit header NotAligned d = (d.0, took-all-beats limit header d.0 0 d.1, d.2, d.3)
   whole text limit header TooLong d = (d.0, d.1, took-beats header d.0 d.1 d.2, d.3, d.4)
@@ -133,7 +143,7 @@ file-answered : {X : Type 0} (at : List ℕ → FrontAt X) (read_as : X → Fron
     → FromFileBy at text seen outcome
 file-answered at read_as text seen beats header mid reads_mid outcome o later_reads d =
     behind-header at text seen header outcome
-    (whole at seen mid o.history.octets o.took reads_mid later_reads (text header) (2 ^ 40) header outcome
+    (whole at seen mid o.history.octets o.took o.asked reads_mid later_reads (text header) (2 ^ 40) header outcome
     (subst (λ limit. FromBeatsBy at (text header) o.history.octets limit header (record seen { told_before = mid; reads_before = reads_mid }) outcome) o.limit d))
 
 -- ---- of captures
@@ -142,11 +152,11 @@ pub header-refused : (text : CaptureText) (seen : Seen) (got : List ℕ) (why : 
 header-refused text seen got why a rose same = refused header_at front.Read short-header text seen got why a rose same
 
 pub header-opened : (beats : BeatsState) (header : Header) (before now : Told) (ended : Bool) (got : List ℕ)
-    → HeaderAnswers (2 ^ 40) got before now ended (Ok header) → Stands beats (header_told (opened (2 ^ 40)) got (Ok header))
+    → HeaderAnswers (2 ^ 40) got before now ended (Ok header) → Stands beats (header_told (opened (2 ^ 40)) got (Ok header)) → IsReadShort header_at before now
     → beats.front ≡ front.Read header → octets_ahead beats.reader ≤ beats.reader.buffer.limit → length beats.reader.buffer.unused ≤ 65536
     → HasOpened beats header before now
-header-opened beats header before now ended got told stands read ahead waits =
-    read-header header_at front.Read few-taken beats header before now ended got told stands read ahead waits
+header-opened beats header before now ended got told stands asked read ahead waits =
+    read-header header_at front.Read few-taken beats header before now ended got told stands asked read ahead waits
 
 pub no-memory-opened : (text : CaptureText) (seen : Seen) (beats : BeatsState) (header : Header) → HasOpened beats header seen.told_before seen.told_after
     → seen.held_after ≡ seen.held_before → FromCapture text seen NoMemory
@@ -167,10 +177,10 @@ levels-refused text seen got why a rose same = refused levels_header_at front.Re
 
 pub levels-opened : (beats : BeatsState) (header : LevelsHeader) (before now : Told) (ended : Bool) (got : List ℕ)
     → HeaderAnswersBy levels_header_at (2 ^ 40) got before now ended (Ok header) → Stands beats (header_told (opened (2 ^ 40)) got (Ok header))
-    → beats.front ≡ front.ReadLevels header → octets_ahead beats.reader ≤ beats.reader.buffer.limit → length beats.reader.buffer.unused ≤ 65536
+    → IsReadShort levels_header_at before now → beats.front ≡ front.ReadLevels header → octets_ahead beats.reader ≤ beats.reader.buffer.limit → length beats.reader.buffer.unused ≤ 65536
     → HasOpenedLevels beats header before now
-levels-opened beats header before now ended got told stands read ahead waits =
-    read-header levels_header_at front.ReadLevels few-levels beats header before now ended got told stands read ahead waits
+levels-opened beats header before now ended got told stands asked read ahead waits =
+    read-header levels_header_at front.ReadLevels few-levels beats header before now ended got told stands asked read ahead waits
 
 pub levels-answered : (text : LevelsText) (seen : Seen) (beats : BeatsState) (header : LevelsHeader) (mid : Told) (reads_mid : ℕ) (outcome : Outcome)
     → (o : HasOpenedLevels beats header seen.told_before mid) → seen.reads_before ≤ reads_mid

@@ -1,7 +1,8 @@
 -- Text of which a part isn't written yet.
-use Rattle.std.proofs.Common.{◌≡◌, ℕ, ◌+◌, ◌≤◌, List, [], ◌++◌, take, length, Option, Some, None, sym, ◌∙◌, ap, refl, append_assoc, append-nil, length-append, arith, Result, Ok, Err}
+use Rattle.std.proofs.Common.{◌≡◌, ℕ, ◌+◌, ◌≤◌, List, [], ◌++◌, take, length, Option, Some, None, sym, subst, ◌∙◌, ap, refl, append_assoc, append-nil, length-append, arith, Result, Ok, Err}
 use Rattle.std.proofs.Math.Seq.{take-append-add}
 use Rattle.std.proofs.lemmas.List.{take-append-le}
+use Rattle.std.specs.Prelude.{IfSome}
 use Rattle.std.specs.Io.KnownBytes.{Appends}
 use Rattle.pcs_io.specs.Octets.{AppendsFront}
 use Rattle.pcs_io.proofs.Told.{appends-append, appends-none}
@@ -80,3 +81,32 @@ longer-in-front (Some xs) (Some ys) (Some zs) l t = (l.0 ++ t.0, t.1 ∙ ap (λ 
 pub extended : {T E : Type 0} (a b c : Option (List ℕ)) (result : Result T E) → Longer a b → Extends b c result → Extends a c result
 extended a b c (Ok value) l m = longer-then a b c l m
 extended a b c (Err error) l m = longer-in-front a b c l m
+
+-- ---- a text that is written, whatever comes after it
+abbrev pub WroteFirst : Option (List ℕ) → Option (List ℕ) → List ℕ → Type 0
+WroteFirst start held text = (more : List ℕ) × Appends start held (text ++ more)
+
+pub first-longer : (start held now : Option (List ℕ)) (text : List ℕ) → WroteFirst start held text → Longer held now → WroteFirst start now text
+first-longer start held now text k l =
+    (k.0 ++ l.0, subst (Appends start now) (append_assoc text k.0 l.0) (appends-append start held now (text ++ k.0) l.0 k.1 l.1))
+
+pub first-all : (start held : Option (List ℕ)) (text pending : List ℕ) → pending ≡ [] → Wrote start held text pending → WroteFirst start held text
+first-all start held text pending none w =
+    ([], subst (Appends start held) (sym (append-nil text)) (wrote-all start held text (subst (Wrote start held text) none w)))
+
+pub first-seen : (start held now : Option (List ℕ)) (text : List ℕ) → WroteFirst start held text → StaysInFront held now
+    → IfSome start (λ before. IfSome now (λ after. (more : List ℕ) × (after ≡ before ++ (text ++ more))))
+first-seen None held now text k s = tt
+first-seen (Some xs) None now text k s = absurd k.1
+first-seen (Some xs) (Some ys) None text k s = tt
+first-seen (Some xs) (Some ys) (Some zs) text k s =
+    (k.0 ++ s.0, s.1 ∙ ap (λ h. h ++ s.0) k.1 ∙ append_assoc xs (text ++ k.0) s.0 ∙ ap (λ t. xs ++ t) (append_assoc text k.0 s.0))
+
+-- what stays in front of what was written since the start
+pub first-stays : (start held now : Option (List ℕ)) (text all pending : List ℕ) → WroteFirst start held text → StaysInFront held now → Wrote start now all pending
+    → WroteFirst start now text
+first-stays None held now text all pending k s w = ([], tt)
+first-stays (Some xs) None now text all pending k s w = absurd k.1
+first-stays (Some xs) (Some ys) None text all pending k s w = absurd w.appended
+first-stays (Some xs) (Some ys) (Some zs) text all pending k s w =
+    (k.0 ++ s.0, s.1 ∙ ap (λ h. h ++ s.0) k.1 ∙ append_assoc xs (text ++ k.0) s.0 ∙ ap (λ t. xs ++ t) (append_assoc text k.0 s.0))

@@ -1,16 +1,16 @@
 -- A command that turns a header and the beats behind it into octets: what it answers, when, and what stands written. It reads a capture or a
 -- file of levels. A definition whose name ends in `By` takes what says which header some octets begin with.
-use Rattle.std.specs.Prelude.{◌≡◌, ℕ, ◌^◌, ◌<◌, ◌≤◌, ◌⊎◌, Bool, true, false, nat_lt, if◌then◌else◌, List, [], ◌++◌, length, Option, Result, Ok, Err}
+use Rattle.std.specs.Prelude.{◌≡◌, ℕ, ◌^◌, ◌<◌, ◌≤◌, ◌⊎◌, Bool, true, false, nat_lt, if◌then◌else◌, List, [], ◌++◌, length, Result, Ok, Err}
 use Rattle.pcs_io.specs.Octets.{Told, Gives, AppendsFront}
 use Rattle.pcs_io.specs.Histories.{octets_ahead}
-use Rattle.pcs_io.specs.Captures.{History, BeatsState, Stands, Going, FrontAt, header_at, levels_header_at, Whole, Wrong, Short, OpensBy, OpensWholeBy}
+use Rattle.pcs_io.specs.Captures.{History, BeatsState, Stands, Going, FrontAt, header_at, levels_header_at, Whole, Wrong, Short, OpensBy, OpensWholeBy, IsReadShort}
 use Rattle.pcs_io.specs.declared.source.Failed.{Failed}
 use Rattle.pcs_io.specs.declared.header.Header.{Header}
 use Rattle.pcs_io.specs.declared.header.BadHeader.{BadHeader as Refusal}
 use Rattle.pcs_io.specs.declared.levels_header.LevelsHeader.{LevelsHeader}
 use Rattle.pcs_io.specs.declared.beats.Front.{Front}
 use Rattle.pcs_io.specs.declared.beats.Front.TheVariants as front
-use Rattle.pcs_drive.specs.Seen.{Seen, Took, TookAll, Written, ReadFailed, WriteFailed}
+use Rattle.pcs_drive.specs.Seen.{Seen, Took, TookAll, Written, WrittenFirst, ReadFailed, WriteFailed}
 use Rattle.pcs_drive.specs.declared.outcome.Outcome.{Outcome}
 use Rattle.pcs_drive.specs.declared.outcome.Outcome.TheVariants.{Done, ReadFault, WriteFault, NoMemory, BadHeader, Cut, NotAligned, TooLong}
 
@@ -51,6 +51,14 @@ BrokeOffBy at text before limit header seen beats =
     × OpensBy at (before ++ got) header beats rest × AppendsFront seen.held_before seen.held_after (text.so_far beats))
     ⊎ ((over : ℕ) × TookAllBeatsBy at before limit header seen beats over × AppendsFront seen.held_before seen.held_after (text.whole beats))
 
+-- Nothing was read; or when the source was read last the header hadn't come, or all text of the beats that had come was written.
+abbrev pub KeptUpBy : {X : Type 0} → (List ℕ → FrontAt X) → BeatsText → List ℕ → X → Seen → Type 0
+KeptUpBy at text before header seen =
+    (seen.told_after ≡ seen.told_before)
+    ⊎ ((early : List ℕ) × (seen.told_after.earlier ≡ seen.told_before.given ++ early)
+    × ((at (before ++ early) ≡ Short)
+    ⊎ ((beats : List (List ℕ)) × (over : ℕ) × OpensWholeBy at (before ++ early) header beats over × WrittenFirst seen (text.so_far beats))))
+
 -- Behind the header each answer has its own condition, of the octets taken and the beats in front of them. `before` was taken and not
 -- answered before, the header among it, and `limit` is that of the reader, above which nothing is taken. No other answer is given.
 abbrev pub FromBeatsBy : {X : Type 0} → (List ℕ → FrontAt X) → BeatsText → List ℕ → ℕ → X → Seen → Outcome → Type 0
@@ -60,7 +68,7 @@ FromBeatsBy at text before limit header seen ReadFault =
     (beats : List (List ℕ)) × (over : ℕ) × ReadFailed seen × (taken : TookBeatsBy at before header seen beats over) × (length (before ++ taken.got) ≤ limit)
     × Written seen (text.so_far beats)
 FromBeatsBy at text before limit header seen WriteFault =
-    (beats : List (List ℕ)) × WriteFailed seen × BrokeOffBy at text before limit header seen beats
+    (beats : List (List ℕ)) × WriteFailed seen × BrokeOffBy at text before limit header seen beats × KeptUpBy at text before header seen
 FromBeatsBy at text before limit header seen (Cut rest) =
     (beats : List (List ℕ)) × (0 < rest) × TookAllBeatsBy at before limit header seen beats rest × Written seen (text.whole beats)
 FromBeatsBy at text before limit header seen NotAligned =
@@ -144,6 +152,7 @@ pub record HasOpenedBy {X : Type 0} (at : List ℕ → FrontAt X) (read_as : X �
   pub has : HasHeaderBy at read_as beats history header
   pub limit : history.limit ≡ 2 ^ 40
   pub took : Gives told_before told_after history.octets
+  pub asked : IsReadShort at told_before told_after
   pub few : length history.octets < 65600
 
 abbrev pub HasOpened : BeatsState → Header → Told → Told → Type 0

@@ -57,6 +57,10 @@ pub record TookAll (seen : Seen) (octets : List ℕ) : Type 0 where
 abbrev pub Written : Seen → List ℕ → Type 0
 Written seen text = IfSome seen.held_before (λ before. IfSome seen.held_after (λ after. after ≡ before ++ text))
 
+-- this text was written first, where the sink tells before and after
+abbrev pub WrittenFirst : Seen → List ℕ → Type 0
+WrittenFirst seen text = IfSome seen.held_before (λ before. IfSome seen.held_after (λ after. (more : List ℕ) × (after ≡ before ++ (text ++ more))))
+
 -- nothing was taken or written
 pub record Untouched (seen : Seen) : Type 0 where
   pub told : seen.told_after ≡ seen.told_before

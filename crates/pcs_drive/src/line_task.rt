@@ -1,6 +1,7 @@
 // What a command makes of lines.
 ghost use Rattle.std.specs.Prelude.{ℕ, List, OnOk, OnErr};
 ghost use Rattle.pcs_io.specs.Faults.{HasCause};
+ghost use Rattle.pcs_io.specs.LineEnds.{EndsAtNewline};
 ghost use Rattle.pcs_drive.specs.LineTasks.{TakesLine, PutsLine, BreaksAtLine};
 ghost use Rattle.pcs_drive.specs.Writing.{Extends};
 
@@ -28,4 +29,7 @@ pub trait LineTask<P: Parser> {
         ensures err { OnErr result (BreaksAtLine Keeps text self.old parser.now (W.held sink.old) output.old (W.held sink.new)) }
         ensures cause { HasCause (W.faults sink.old) (W.faults sink.new) result }
         ensures grows { Extends (W.held sink.old) (W.held sink.new) result };
+
+    /// No line goes on after a newline.
+    ghost ends: { EndsAtNewline P.line_at };
 }

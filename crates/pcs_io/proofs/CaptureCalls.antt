@@ -26,7 +26,7 @@ module _ {X : Type 0} (at : List ℕ → FrontAt X) where
       let split = pieces-split octets pieces beats rest b in
       (split.0, ap at (pieces-parts octets pieces split.0 split.1) ∙ is split.0, split.2)
 
-  opens-whole : (octets : List ℕ) (header : X) (pieces beats : List (List ℕ)) (rest : List ℕ) → IsHeaderBy at pieces header
+  pub opens-whole : (octets : List ℕ) (header : X) (pieces beats : List (List ℕ)) (rest : List ℕ) → IsHeaderBy at pieces header
       → Begins beat_at octets (pieces ++ beats) rest → length rest < 16 → OpensWholeBy at octets header beats (length rest)
   opens-whole octets header pieces beats rest is b short = (rest, opens octets header pieces beats rest is b, refl, short)
 

@@ -201,6 +201,14 @@ captures = record { put = λ header standing pieces h is course. (is, course); g
 pub level_files : Kind levels_header_at front.ReadLevels
 level_files = record { put = λ header standing pieces h is course. (is, course); get = λ header standing pieces h at. at }
 
+-- where no header was asked for, the reader of pieces is as it was opened
+pub fresh-reader : (x : BeatsState) → x.front ≡ front.Unread → (h : History) → Stands x h → lines.Stands beat_at x.reader (lines.opened h.limit)
+fresh-reader x unread h s =
+    let at_start = subst (λ f. StandsAt f s.standing s.pieces h) unread s.at in
+    let a = subst (λ ps. lines.Stands beat_at x.reader (pieces_read h.limit h.octets (ps ++ h.beats) s.standing)) at_start.0 s.read in
+    let b = subst (λ st. lines.Stands beat_at x.reader (pieces_read h.limit h.octets h.beats st)) at_start.1 a in
+    subst (λ k. lines.Stands beat_at x.reader (pieces_read h.limit k.octets k.beats reader.Going)) at_start.2 b
+
 module _ {X : Type 0} (at : List ℕ → FrontAt X) (read_as : X → Front) (kind : Kind at read_as)
     (Reads : ReaderState BeatParserState → ReaderState BeatParserState → Told → Told → Bool → Result X CapFault → Type 0)
     (settling : (limit : ℕ) (old : ReaderState BeatParserState) (before : Told) (fresh : lines.Stands beat_at old (lines.opened limit))
@@ -241,20 +249,12 @@ module _ {X : Type 0} (at : List ℕ → FrontAt X) (read_as : X → Front) (kin
         },
       )
 
-  fresh-of : (x : ReaderState BeatParserState) (h : History) (pieces : List (List ℕ)) (standing : Standing) → pieces ≡ [] → standing ≡ reader.Going
-      → h ≡ opened h.limit
-      → lines.Stands beat_at x (pieces_read h.limit h.octets (pieces ++ h.beats) standing) → lines.Stands beat_at x (lines.opened h.limit)
-  fresh-of x h pieces standing none going new s =
-      let a = subst (λ ps. lines.Stands beat_at x (pieces_read h.limit h.octets (ps ++ h.beats) standing)) none s in
-      let b = subst (λ st. lines.Stands beat_at x (pieces_read h.limit h.octets h.beats st)) going a in
-      subst (λ k. lines.Stands beat_at x (pieces_read h.limit k.octets k.beats reader.Going)) new b
-
   pub told-by : (x : BeatsState) (new : ReaderState BeatParserState) (before now : Told) (ended : Bool) (result : Result X CapFault)
       → x.front ≡ front.Unread → Reads x.reader new before now ended result → (h : History) → Stands x h → HeaderTold h new before now ended result
   told-by x new before now ended result unread reads h s =
       let at_start = subst (λ f. StandsAt f s.standing s.pieces h) unread s.at in
-      let fresh = fresh-of x.reader h s.pieces s.standing at_start.0 at_start.1 at_start.2 s.read in
-      subst (λ k. HeaderTold k new before now ended result) (sym at_start.2) (told-opened h.limit x.reader new before now ended result fresh reads)
+      subst (λ k. HeaderTold k new before now ended result) (sym at_start.2)
+      (told-opened h.limit x.reader new before now ended result (fresh-reader x unread h s) reads)
 
 pub settles : (limit : ℕ) (old : ReaderState BeatParserState) (before : Told) (fresh : lines.Stands beat_at old (lines.opened limit))
     (new : ReaderState BeatParserState) (now : Told) (ended : Bool) (result : Result Header CapFault)

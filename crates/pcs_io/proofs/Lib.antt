@@ -24,6 +24,7 @@ pub mod BeatPieces
 pub mod HeaderReading
 pub mod HeaderCalls
 pub mod CaptureCalls
+pub mod LastReads
 pub mod HeaderSizes
 pub mod HeadersBack
 pub mod HeaderRanges

@@ -155,6 +155,16 @@ BeatAnswersBy at h header got before now ended (Err cap.TooLong) =
 abbrev pub BeatAnswers : History → Header → List ℕ → Told → Told → Bool → Result BeatIn CapFault → Type 0
 BeatAnswers h header got before now ended answer = BeatAnswersBy header_at h header got before now ended answer
 
+-- the source wasn't read, or when it was read last no header had come
+abbrev pub IsReadShort : {X : Type 0} → (List ℕ → FrontAt X) → Told → Told → Type 0
+IsReadShort at before now = (now ≡ before) ⊎ ((early : List ℕ) × (now.earlier ≡ before.given ++ early) × (at early ≡ Short))
+
+-- the source wasn't read, or when it was read last the header and these beats had come, and no further beat
+abbrev pub IsReadAfterBy : {X : Type 0} → (List ℕ → FrontAt X) → History → X → Told → Told → Type 0
+IsReadAfterBy at h header before now =
+    (now ≡ before)
+    ⊎ ((early : List ℕ) × (now.earlier ≡ before.given ++ early) × (over : ℕ) × OpensWholeBy at (h.octets ++ early) header h.beats over)
+
 -- a call of `next`: after the end or a fault it answers the same again, and does nothing
 abbrev pub TellsBy : {X : Type 0} → (List ℕ → FrontAt X) → Course → History → X → BeatsState → BeatsState → Told → Told → Bool → Result BeatIn CapFault → Type 0
 TellsBy at Unread h header old new before now ended answer = ⊥

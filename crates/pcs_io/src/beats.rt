@@ -67,7 +67,7 @@ impl Model for Beats {
 }
 
 impl Beats {
-    ghost use Rattle.pcs_io.specs.Captures.{History, Stands, Tells, TellsBy, HeaderAnswers, HeaderAnswersBy, IsNearerEnd, Going, Passes, PassesBy, opened, header_told, header_read, whole_front, levels_header_at};
+    ghost use Rattle.pcs_io.specs.Captures.{History, Stands, Tells, TellsBy, HeaderAnswers, HeaderAnswersBy, IsReadShort, IsReadAfterBy, IsNearerEnd, Going, Passes, PassesBy, opened, header_told, header_read, whole_front, header_at, levels_header_at};
     ghost use Rattle.pcs_io.specs.Histories.{octets_ahead};
     ghost use Rattle.pcs_io.specs.declared.header.Header.{Header};
     ghost use Rattle.pcs_io.specs.declared.levels_header.LevelsHeader.{LevelsHeader};
@@ -90,6 +90,7 @@ impl Beats {
         ensures answers { (h : History) → Stands self.old h → (got : List ℕ)
             × HeaderAnswers h.limit got (S.told source.old) (S.told source.new) (S.ended source.new) result
             × Stands self.new (header_told h got result) }
+        ensures asks { (h : History) → Stands self.old h → IsReadShort header_at (S.told source.old) (S.told source.new) }
         ensures front { IfOk result (λ header. self.new.front ≡ Front.Read header) }
         ensures range { IfOk result IsInRange }
         ensures ahead { IfOk result (λ _. octets_ahead self.new.reader ≤ self.new.reader.buffer.limit) }
@@ -111,6 +112,7 @@ impl Beats {
         ensures answers { (h : History) → Stands self.old h → (got : List ℕ)
             × HeaderAnswersBy levels_header_at h.limit got (S.told source.old) (S.told source.new) (S.ended source.new) result
             × Stands self.new (header_told h got result) }
+        ensures asks { (h : History) → Stands self.old h → IsReadShort levels_header_at (S.told source.old) (S.told source.new) }
         ensures front { IfOk result (λ header. self.new.front ≡ Front.ReadLevels header) }
         ensures range { IfOk result IsLevelsHeader }
         ensures ahead { IfOk result (λ _. octets_ahead self.new.reader ≤ self.new.reader.buffer.limit) }
@@ -133,6 +135,10 @@ impl Beats {
             → Tells h.course h header self.old self.new (S.told source.old) (S.told source.new) (S.ended source.new) result }
         ensures levels { (h : History) (header : LevelsHeader) → Stands self.old h → self.old.front ≡ Front.ReadLevels header
             → TellsBy levels_header_at h.course h header self.old self.new (S.told source.old) (S.told source.new) (S.ended source.new) result }
+        ensures asks { (h : History) (header : Header) → Stands self.old h → self.old.front ≡ Front.Read header → h.course ≡ Going
+            → IsReadAfterBy header_at h header (S.told source.old) (S.told source.new) }
+        ensures asks_levels { (h : History) (header : LevelsHeader) → Stands self.old h → self.old.front ≡ Front.ReadLevels header → h.course ≡ Going
+            → IsReadAfterBy levels_header_at h header (S.told source.old) (S.told source.new) }
         ensures front { self.new.front ≡ self.old.front }
         ensures nearer { IsNearerEnd self.old self.new result }
         ensures later { S.faults source.old ≤ S.faults source.new }

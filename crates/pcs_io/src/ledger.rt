@@ -1,4 +1,4 @@
-// A list of octets that only proofs read. It takes no memory, and its calls do nothing when they run.
+// Octets that only proofs read. They take no memory, and the calls do nothing when they run.
 ghost use Rattle.std.specs.Prelude.{◌≡◌, ℕ, List, [], ◌++◌};
 ghost use Rattle.std.specs.Borrow.{ftrue};
 
@@ -8,6 +8,8 @@ use std::marker::{Model, PhantomData};
 pub struct Ledger {
     marker: PhantomData<u8>,
     pub ghost octets: { List ℕ },
+    // Those that were entered before the last call.
+    pub ghost earlier: { List ℕ },
 }
 
 impl Model for Ledger {
@@ -16,7 +18,7 @@ impl Model for Ledger {
 
 impl Ledger {
     pub(crate) fn new() -> Ledger
-        ensures { result.octets ≡ [] }
+        ensures { (result.octets ≡ []) × (result.earlier ≡ []) }
     {
         Ledger {
             marker: PhantomData,
@@ -25,6 +27,6 @@ impl Ledger {
 
     /// Enters these octets after the others.
     pub(crate) fn append(&mut self, _octets: &[u8])
-        ensures { self.new.octets ≡ self.old.octets ++ _octets.now }
+        ensures { (self.new.octets ≡ self.old.octets ++ _octets.now) × (self.new.earlier ≡ self.old.octets) }
     {}
 }

@@ -1,7 +1,7 @@
 // The reader of lines, for any grammar.
 ghost use Rattle.std.specs.Prelude.{◌≡◌, ◌<◌, ◌≤◌, ◌+◌, ◌-◌, ◌^◌, ◌⊎◌, length, drop, true, false, IfOk, IsErrOf, IsTrue, Contains, ◌↔◌, MatchResult, Ok};
 ghost use Rattle.pcs_io.specs.Faults.{HasCause, Rose};
-ghost use Rattle.pcs_io.specs.Reading.{Finds, FailsOpen, Stepped};
+ghost use Rattle.pcs_io.specs.Reading.{Finds, FailsOpen, IsReadOpen, Stepped};
 ghost use Rattle.pcs_io.specs.Advancing.{FindsLine};
 
 use crate::input_buffer::{Fill, InputBuffer};
@@ -137,6 +137,7 @@ impl<P: Parser + Drop> Reader<P> {
     // The same, by its state alone.
     fn advance<S: Source>(&mut self, source: &mut S) -> Result<bool, InFault>
         ensures calls { Calls P.line_at self.old.standing self.old self.new (S.told source.old) (S.told source.new) (S.ended source.new) (P.line self.new.parser) result }
+        ensures asks { IsReadOpen P.line_at self.old.buffer.unused (S.told source.old) (S.told source.new) }
         ensures later { S.faults source.old ≤ S.faults source.new }
         ensures read { IsErrOf result InFault.Read → (Rose (S.faults source.old) (S.faults source.new)) ⊎ (self.old.standing ≡ Standing.Failed InFault.Read) }
     {
@@ -173,6 +174,7 @@ fn next_line<P: Parser, S: Source>(
     requires limit { input.old.limit < 2 ^ 64 }
     requires lines { lines + length input.old.unused ≤ input.old.taken }
     ensures answers { FindsLine P.line_at lines input.old input.new (S.told source.old) (S.told source.new) (S.ended source.new) (P.line parser.new) result }
+    ensures asks { IsReadOpen P.line_at input.old.unused (S.told source.old) (S.told source.new) }
     ensures taken { input.new.taken ≤ input.new.limit }
     ensures later { S.faults source.old ≤ S.faults source.new }
     ensures read { IsErrOf result InFault.Read → Rose (S.faults source.old) (S.faults source.new) }
@@ -225,6 +227,7 @@ fn read_line<P: Parser, S: Source>(
     ensures finds { MatchResult result
         (Finds P.line_at input.old input.new (S.told source.old) (S.told source.new) (S.ended source.new) (P.line parser.new))
         (λ _. FailsOpen P.line_at input.old input.new (S.told source.old) (S.told source.new)) }
+    ensures asks { IsReadOpen P.line_at input.old.unused (S.told source.old) (S.told source.new) }
     ensures taken { input.new.taken ≤ input.new.limit }
     ensures cause { HasCause (S.faults source.old) (S.faults source.new) result }
 {

@@ -1,11 +1,11 @@
 -- A packet capture decides how `pcap` ends, where no stream failed and there was memory.
-use Rattle.std.proofs.Common.{◌≡◌, ℕ, ◌+◌, ◌-◌, ◌^◌, ◌<◌, ◌≤◌, ◌⊎◌, inl, inr, Bool, true, false, nat_lt, cond, List, [], ◌∷◌, ◌++◌, length, take, sym, ap, ap₂, subst, refl, ◌∙◌, arith, append-nil, length-append}
+use Rattle.std.proofs.Common.{◌≡◌, ℕ, ◌+◌, ◌-◌, ◌^◌, ◌<◌, ◌⊎◌, inl, inr, Bool, true, false, nat_lt, cond, List, [], ◌∷◌, ◌++◌, length, take, sym, ap, ap₂, subst, refl, ◌∙◌, arith, length-append}
 use Rattle.std.proofs.lemmas.Bool.{le-ltb}
 use Rattle.std.proofs.lemmas.Bool.Decides.{nat_tests}
 use Rattle.pcs_io.specs.TextLines.{text_line_at}
 use Rattle.pcs_io.specs.TextGrammar.{text_grammar}
 use Rattle.pcs_io.specs.declared.header.BadHeader.{BadHeader as Refusal}
-use Rattle.pcap_frames.specs.Pcap.{HeaderAt, header_at, Whole, Wrong, Short, RecordAt, record_at, Record, Refused, Open, Begins, Opens, Records, pcap_octets}
+use Rattle.pcap_frames.specs.Pcap.{header_at, Whole, Wrong, Short, RecordAt, record_at, Record, Refused, Open, Begins, Opens, Records, pcap_octets}
 use Rattle.pcap_frames.specs.declared.number.Order.{Order}
 use Rattle.pcap_frames.specs.declared.fault.RecordKind.{RecordKind}
 use Rattle.pcap_frames.specs.declared.fault.RecordKind.TheVariants.{Ended}
@@ -14,7 +14,7 @@ use Rattle.pcap_frames.proofs.Readings.{same-record, same-header}
 use Rattle.pcap_frames.proofs.Told.{begins-more}
 use Rattle.pcs_drive.specs.Seen.{Seen}
 use Rattle.pcs_drive.specs.Deciding.{IsSettled, Given}
-use Rattle.pcs_drive.specs.declared.outcome.Outcome.TheVariants.{Done, ReadFault, WriteFault, NoMemory, BadHeader, TooLong}
+use Rattle.pcs_drive.specs.declared.outcome.Outcome.TheVariants.{Done, ReadFault, WriteFault, BadHeader, TooLong}
 use Rattle.pcs_drive.proofs.Deciding.{front, all, reach, reach-front, all-reached, limit-reached, lines-decide}
 use Rattle.pcs_late.specs.Laws.{IsSettledPcap, PcapDecides}
 use Rattle.pcs_late.specs.Unpacking.{IsNoHeader, IsBadRecord, Unpacked}

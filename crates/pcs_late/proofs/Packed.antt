@@ -9,7 +9,7 @@ use Rattle.pcs_io.proofs.Told.{gives-none, takes-consumed}
 use Rattle.pcap_frames.specs.Pcap.{header_octets, pcap_octets, record_octets}
 use Rattle.pcs_io.specs.declared.fault.Kind.{Kind}
 use Rattle.pcs_drive.specs.Seen.{Seen, TookAll, Written, WriteFailed}
-use Rattle.pcs_drive.specs.LineCommand.{Converted, IsRefused}
+use Rattle.pcs_drive.specs.LineCommand.{Converted, IsRefused, KeptUp}
 use Rattle.pcs_drive.specs.declared.outcome.Outcome.{Outcome}
 use Rattle.pcs_drive.specs.declared.outcome.Outcome.TheVariants.{Done, ReadFault, WriteFault, BadLine, TooLong}
 use Rattle.pcs_drive.proofs.Copying.{rose-after}
@@ -48,6 +48,16 @@ front-behind before mid after first text whole is a f = (wrote-front before mid 
     found (Some before) (Some mid) None a f = tt
     found (Some before) (Some mid) (Some after) a f = (take f.0 text, f.2 ∙ ap (λ h. h ++ take f.0 text) a)
 
+-- or it and more
+first-behind : (before mid after : Option (List ℕ)) (first text whole : List ℕ) → whole ≡ first ++ text → Appends before mid first
+    → IfSome mid (λ b. IfSome after (λ a. (more : List ℕ) × (a ≡ b ++ (text ++ more)))) → IfSome before (λ b. IfSome after (λ a. (more : List ℕ) × (a ≡ b ++ (whole ++ more))))
+first-behind None mid after first text whole is a w = tt
+first-behind (Some before) None after first text whole is a w = absurd a
+first-behind (Some before) (Some mid) None first text whole is a w = tt
+first-behind (Some before) (Some mid) (Some after) first text whole is a w =
+    let all : whole ++ w.0 ≡ first ++ (text ++ w.0) = ap (λ t. t ++ w.0) is ∙ append_assoc first text w.0 in
+    (w.0, w.1 ∙ ap (λ h. h ++ (text ++ w.0)) a ∙ append_assoc before first (text ++ w.0) ∙ ap (λ t. before ++ t) (sym all))
+
 module _ (seen : Seen) (mid : Option (List ℕ)) (writes : ℕ) (later : seen.writes_before ≤ writes) (a : Appends seen.held_before mid header_octets) where
   -- what is seen from the time on at which the header is written
   abbrev pub behind_header : Seen
@@ -65,12 +75,17 @@ module _ (seen : Seen) (mid : Option (List ℕ)) (writes : ℕ) (later : seen.wr
   refused octets frames kind (inl r) = inl r
   refused octets frames kind (inr r) = inr (r.0, took-all octets r.1, r.2, r.3)
 
+  kept-up : KeptUp text_line_at records_text behind_header → KeptUp text_line_at pcap_octets seen
+  kept-up (inl same) = inl same
+  kept-up (inr (early, told, frames, over, first)) =
+      inr (early, told, frames, over, first-behind seen.held_before mid seen.held_after header_octets (records_text frames) (pcap_octets frames) (behind frames) a first)
+
   pub packed : (outcome : Outcome) → Converted text_line_at records_text behind_header outcome → Packed seen outcome
   packed Done c = let w = both c.1 c.5 in record { converted = (c.0, c.1, took-all c.0 c.2, c.3, c.4, w.0); header_first = inr w.1 }
   packed ReadFault c = let w = both c.1 c.6 in record { converted = (c.0, c.1, c.2, c.3, c.4, c.5, w.0); header_first = inr w.1 }
   packed WriteFault c =
       let w = front-behind seen.held_before mid seen.held_after header_octets (records_text c.1) (pcap_octets c.1) (behind c.1) a c.8 in
-      record { converted = (c.0, c.1, c.2, rose-after seen.writes_before writes seen.writes_after later c.3, c.4, c.5, c.6, c.7, w.0); header_first = inr w.1 }
+      record { converted = (c.0, c.1, c.2, rose-after seen.writes_before writes seen.writes_after later c.3, c.4, c.5, c.6, c.7, w.0, kept-up c.9); header_first = inr w.1 }
   packed (BadLine number kind) c = let w = both c.1 c.4 in record { converted = (c.0, c.1, c.2, refused c.0 c.1 kind c.3, w.0); header_first = inr w.1 }
   packed TooLong c = let w = both c.1 c.5 in record { converted = (c.0, c.1, c.2, c.3, c.4, w.0); header_first = inr w.1 }
   packed outcome c = absurd c
@@ -89,6 +104,7 @@ header-failed seen same rose front = record {
     refl,
     fresh-near text_line_at [] (omega arith),
     front-more seen.held_before seen.held_after header_octets [] front,
+    inl same,
   );
   header_first = inl same;
 }

@@ -1,5 +1,5 @@
 -- An input in the grammar of `pcap` is turned into its text.
-use Rattle.std.proofs.Common.{◌≡◌, ℕ, ◌^◌, ◌<◌, ◌⊎◌, inl, inr, Bool, true, false, List, length, Some, refl, ap, subst, ◌∙◌, arith}
+use Rattle.std.proofs.Common.{◌≡◌, ℕ, ◌^◌, ◌<◌, ◌⊎◌, inl, inr, Bool, true, false, List, length, refl, ap, subst, ◌∙◌}
 use Rattle.pcs_io.specs.TextLines.{text_line_at}
 use Rattle.pcs_io.specs.TextGrammar.{text_grammar}
 use Rattle.pcap_frames.specs.Pcap.{pcap_octets}

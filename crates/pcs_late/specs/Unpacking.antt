@@ -13,7 +13,7 @@ use Rattle.pcap_frames.specs.declared.fault.PcapFault.TheVariants as fault
 use Rattle.pcap_frames.specs.declared.fault.RecordKind.{RecordKind}
 use Rattle.pcap_frames.specs.declared.fault.RecordKind.TheVariants.{Ended}
 use Rattle.pcap_frames.specs.declared.reader.Standing.TheVariants.{Going}
-use Rattle.pcs_drive.specs.Seen.{Seen, Took, TookAll, Written, ReadFailed, WriteFailed}
+use Rattle.pcs_drive.specs.Seen.{Seen, Took, TookAll, Written, WrittenFirst, ReadFailed, WriteFailed}
 use Rattle.pcs_drive.specs.declared.outcome.Outcome.TheVariants.{Done, ReadFault, WriteFault, BadHeader, TooLong}
 use Rattle.pcs_late.specs.declared.pcap_outcome.PcapOutcome.{PcapOutcome}
 use Rattle.pcs_late.specs.declared.pcap_outcome.PcapOutcome.TheVariants.{Usual, BadRecord}
@@ -56,6 +56,14 @@ IsBadRecord short seen frames kind =
 abbrev pub TookOpen : Bool → Seen → List ℕ → List (List ℕ) → Type 0
 TookOpen short seen octets frames = Took seen octets × (order : Order) × EndOpen order short octets frames
 
+-- Nothing was read, or when the source was read last the header wasn't whole, or all text of the records that had come was written.
+abbrev pub KeptUp : ℕ → Bool → Seen → Type 0
+KeptUp gap short seen =
+    (seen.told_after ≡ seen.told_before)
+    ⊎ ((early : List ℕ) × (seen.told_after.earlier ≡ seen.told_before.given ++ early)
+    × ((header_at early ≡ Short)
+    ⊎ ((order : Order) × (frames : List (List ℕ)) × EndOpen order short early frames × WrittenFirst seen (unpacked_text gap frames))))
+
 -- Each answer has its own condition, of the octets taken, which are never more than the limit, and the records in front of them. No other
 -- answer is given.
 abbrev pub Unpacked : ℕ → Bool → Seen → PcapOutcome → Type 0
@@ -69,6 +77,7 @@ Unpacked gap short seen (Usual ReadFault) =
 Unpacked gap short seen (Usual WriteFault) =
     WriteFailed seen × (octets : List ℕ) × (frames : List (List ℕ)) × (order : Order) × (rest : List ℕ)
     × Took seen octets × (length octets ≤ 2 ^ 40) × Opens order short octets frames rest × AppendsFront seen.held_before seen.held_after (unpacked_text gap frames)
+    × KeptUp gap short seen
 Unpacked gap short seen (Usual (BadHeader bad)) = IsNoHeader seen bad × Written seen []
 Unpacked gap short seen (Usual TooLong) =
     (octets : List ℕ) × (frames : List (List ℕ)) × TookOpen short seen octets frames × (length octets ≡ 2 ^ 40)

@@ -46,10 +46,13 @@ struct Answering;
 impl LineTask<SymbolParser> for Answering {
     ghost use Rattle.std.specs.Prelude.{⊤};
     ghost use Rattle.pcs_drive.specs.LineTasks.{by_lines};
+    ghost use Rattle.pcs_io.specs.LineEnds.{symbol_lines_end};
     ghost use Rattle.pcs_io.specs.SymbolLines.{SymbolParserState};
     ghost use Rattle.pcs_late.specs.Kr.{kr_text};
 
     ghost text = { by_lines (λ (parser : SymbolParserState). parser.numbers) kr_text };
+
+    ghost ends = { symbol_lines_end };
 
     ghost Keeps = { λ x parsers. ⊤ };
 

@@ -36,10 +36,13 @@ struct Packing;
 impl LineTask<TextParser> for Packing {
     ghost use Rattle.std.specs.Prelude.{⊤};
     ghost use Rattle.pcs_drive.specs.LineTasks.{by_lines};
+    ghost use Rattle.pcs_io.specs.LineEnds.{text_lines_end};
     ghost use Rattle.pcs_io.specs.TextLines.{TextParserState};
     ghost use Rattle.pcs_late.specs.Packing.{records_text};
 
     ghost text = { by_lines (λ (parser : TextParserState). parser.frame) records_text };
+
+    ghost ends = { text_lines_end };
 
     ghost Keeps = { λ x parsers. ⊤ };
 

@@ -1,5 +1,5 @@
 -- An input in the grammar is turned into its text, and the input decides how a command ends.
-use Rattle.std.proofs.Common.{◌≡◌, ℕ, ◌-◌, ◌^◌, ◌<◌, ◌⊎◌, inl, inr, List, [], ◌++◌, length, take, Some, Result, Ok, Err, sym, ◌∙◌, ap, subst, refl, append_assoc, arith, ◌∷◌, ◌+◌, ◌≤◌, length-append}
+use Rattle.std.proofs.Common.{◌≡◌, ℕ, ◌-◌, ◌^◌, ◌<◌, ◌⊎◌, inl, inr, List, [], ◌++◌, length, take, Result, Ok, Err, sym, ◌∙◌, ap, subst, refl, append_assoc, arith, ◌∷◌, ◌+◌, length-append}
 use Rattle.std.proofs.lemmas.List.{reverse-append}
 use Rattle.mac_columns.specs.declared.column.Column.{Column}
 use Rattle.pcs_watch.specs.Watching.{Seen as Watched}

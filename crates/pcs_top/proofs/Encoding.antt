@@ -14,15 +14,15 @@ use Rattle.pcs_io.specs.declared.source.Failed.{Failed}
 use Rattle.pcs_io.specs.Grammars.{Begins, IsNear}
 use Rattle.pcs_io.proofs.Told.{gives-none, gives-append, takes-after, takes-consumed}
 use Rattle.pcs_io.specs.declared.fault.Kind.{Kind}
-use Rattle.pcs_drive.specs.LineCommand.{IsRefused}
+use Rattle.pcs_drive.specs.LineCommand.{IsRefused, KeptUp}
 use Rattle.pcs_drive.specs.Seen.{Seen, TookAll, Written, ReadFailed, WriteFailed}
 use Rattle.pcs_drive.specs.Outcomes.{outcome_of}
 use Rattle.pcs_top.specs.Captures.{begun_octets, sent_octets}
 use Rattle.pcs_top.specs.LineColumns.{columns_of_line, columns_of_lines}
-use Rattle.pcs_top.specs.Encoding.{BrokeOff, HasWaited, Encoded, Encodes, HasBegun}
+use Rattle.pcs_top.specs.Encoding.{BrokeOff, HasWaited, Encoded, Encodes, HasBegun, begun_text}
 use Rattle.pcs_top.specs.Sending.{HasPut, LineHalts}
 use Rattle.std.specs.Prelude.{IfSome}
-use Rattle.pcs_drive.specs.Writing.{Wrote, Stays, BreaksOffBefore, StaysInFront}
+use Rattle.pcs_drive.specs.Writing.{Wrote, Stays, BreaksOffBefore, Longer, StaysInFront}
 use Rattle.pcs_words.specs.declared.command.EncodeOptions.{EncodeOptions}
 use Rattle.pcs_top.specs.declared.encode.Halt.{Halt}
 use Rattle.pcs_top.specs.declared.encode.Halt.TheVariants as halt
@@ -30,7 +30,7 @@ use Rattle.pcs_drive.specs.declared.outcome.Outcome.{Outcome}
 use Rattle.pcs_drive.specs.declared.outcome.Outcome.TheVariants.{Done, ReadFault, WriteFault, BadLine, TooTight, TooLong}
 use Rattle.pcs_drive.proofs.WritingLemmas.{wrote-all, same-in-front}
 use Rattle.pcs_io.proofs.Progress.{fresh-near}
-use Rattle.pcs_drive.proofs.Copying.{Copied, opened-near, reading, all-written, took-all, took-more, refused, behind-fault, tells}
+use Rattle.pcs_drive.proofs.Copying.{Copied, opened-near, reading, all-written, took-all, took-more, refused, behind-fault, tells, Asked, asked-longer, asked-stays, kept-up}
 
 no-lines : columns_of_lines [] ≡ []
 unfolding columns_of_lines
@@ -50,13 +50,9 @@ written : (seen : Seen) (held_mid : Option (List ℕ)) (text pending : List ℕ)
 written seen held_mid text pending wrote flushed = all-written seen.held_before seen.held_after text (wrote-all seen.held_before seen.held_after text (flushed seen.held_before text wrote))
 
 module _ (o : EncodeOptions) where
-  -- what the columns of lines have begun
-  abbrev pub begun_text : List FrameLine → List ℕ
-  begun_text lines = begun_octets o (columns_of_lines lines)
-
   -- the sender has put the columns of these lines, and so their text may stand anywhere
   abbrev pub HasLines : State → List FrameLine → Type 0
-  HasLines sender lines = (start held : Option (List ℕ)) (pending : List ℕ) → Wrote start held (begun_text lines) pending → HasPut sender o (columns_of_lines lines) start held pending
+  HasLines sender lines = (start held : Option (List ℕ)) (pending : List ℕ) → Wrote start held (begun_text o lines) pending → HasPut sender o (columns_of_lines lines) start held pending
 
   -- what is put may be written further
   pub put-again : (sender : State) (cs : List Column) (start start_now held held_now : Option (List ℕ)) (pending pending_now : List ℕ)
@@ -116,7 +112,7 @@ module _ (o : EncodeOptions) where
 
   module _ {P : Type 0} where
     abbrev pub SoFar : State → ReaderState P → Told → Told → Option (List ℕ) → Option (List ℕ) → List ℕ → Type 0
-    SoFar sender = Copied {X = FrameLine} {P = P} frame_line_at begun_text (HasLines sender)
+    SoFar sender = Copied {X = FrameLine} {P = P} frame_line_at (begun_text o) (HasLines sender)
 
     pub sent-start : (sender : State) (lines : ReaderState P) (before : Told) (start held : Option (List ℕ)) (pending : List ℕ)
         → Stands frame_line_at lines (opened (2 ^ 40))
@@ -129,6 +125,7 @@ module _ (o : EncodeOptions) where
       took = gives-none before;
       wrote = subst (λ xs. Wrote start held (begun_octets o xs) pending) (sym no-lines) put.sent.wrote;
       keeps = has-lines sender [] [] start held pending put no-lines;
+      asked = inl refl;
     }
 
     module _ (sender : State) (before mid : Told) (start held : Option (List ℕ)) (pending : List ℕ) (old : ReaderState P) (c : SoFar sender old before mid start held pending) where
@@ -143,9 +140,9 @@ module _ (o : EncodeOptions) where
         (old new : ReaderState P) (ended : Bool) (line : FrameLine)
         → (c : SoFar sender old before mid start held pending) → Nexts frame_line_at old new mid now ended (Ok (Some line))
         → ((cs : List Column) → HasPut sender o cs start held pending → HasPut later o (cs ++ columns_of_line line) start held_now after)
-        → SoFar later new before now start held_now after
-    sent-line sender later before mid now start held held_now pending after old new ended line c n puts =
-        let t = tells frame_line_at begun_text (HasLines sender) old new before mid now start held pending ended (Ok (Some line)) c n in
+        → Asked frame_line_at (begun_text o) before now start held → Longer held held_now → SoFar later new before now start held_now after
+    sent-line sender later before mid now start held held_now pending after old new ended line c n puts asked longer =
+        let t = tells frame_line_at (begun_text o) (HasLines sender) old new before mid now start held pending ended (Ok (Some line)) c n in
         let put = puts (columns_of_lines c.answered) (so-far sender before mid start held pending old c) in
         record {
           octets = c.octets ++ t.0;
@@ -155,6 +152,7 @@ module _ (o : EncodeOptions) where
           took = gives-append before mid now c.octets t.0 c.took t.1.0;
           wrote = subst (λ xs. Wrote start held_now (begun_octets o xs) after) (sym (one-line c.answered line)) put.sent.wrote;
           keeps = has-lines later (c.answered ++ line ∷ []) (columns_of_lines c.answered ++ columns_of_line line) start held_now after put (one-line c.answered line);
+          asked = asked-longer frame_line_at (begun_text o) before now start held held_now asked longer;
         }
 
     -- the ends
@@ -163,15 +161,22 @@ module _ (o : EncodeOptions) where
       put-so-far : HasPut sender o (columns_of_lines c.answered) seen.held_before held pending
       put-so-far = so-far sender seen.told_before mid seen.held_before held pending old c
 
+      -- what was written when the source was read last
+      abbrev IsAsked : Option (List ℕ) → Type 0
+      IsAsked now = Asked frame_line_at (begun_text o) seen.told_before seen.told_after seen.held_before now
+
+      up : (now : Option (List ℕ)) → IsAsked now → StaysInFront now seen.held_after → KeptUp frame_line_at (begun_text o) seen
+      up now asked stays = kept-up frame_line_at (begun_text o) seen now asked stays
+
       begun : Stays held pending seen.held_after [] → HasBegun o seen (columns_of_lines c.answered)
-      begun flushed = record { legal = put-so-far.legal; written = written seen held (begun_text c.answered) pending c.wrote flushed }
+      begun flushed = record { legal = put-so-far.legal; written = written seen held (begun_text o c.answered) pending c.wrote flushed }
 
       -- the end of the input between two lines
       pub encoded-done : (held_end : Option (List ℕ)) (pending_end : List ℕ) → Nexts frame_line_at old new mid seen.told_after seen.ended (Ok None)
           → ((cs : List Column) → HasPut sender o cs seen.held_before held pending → Wrote seen.held_before held_end (sent_octets o cs) pending_end)
           → Stays held_end pending_end seen.held_after [] → Encoded o seen Done
       encoded-done held_end pending_end n finish flushed =
-          let t = tells frame_line_at begun_text (HasLines sender) old new seen.told_before mid seen.told_after seen.held_before held pending seen.ended (Ok None) c n in (
+          let t = tells frame_line_at (begun_text o) (HasLines sender) old new seen.told_before mid seen.told_after seen.held_before held pending seen.ended (Ok None) c n in (
             c.octets ++ t.0,
             c.answered,
             took-all seen mid c.octets t.0 c.took t.1.0,
@@ -186,13 +191,13 @@ module _ (o : EncodeOptions) where
           → (fault ≡ in_fault.Read → ReadFailed seen)
           → Stays held pending seen.held_after [] → Encoded o seen (outcome_of fault)
       encoded-fault in_fault.Read n rose flushed =
-          let t = tells frame_line_at begun_text (HasLines sender) old new seen.told_before mid seen.told_after seen.held_before held pending seen.ended (Err in_fault.Read) c n in
+          let t = tells frame_line_at (begun_text o) (HasLines sender) old new seen.told_before mid seen.told_after seen.held_before held pending seen.ended (Err in_fault.Read) c n in
           (c.octets ++ t.0, c.answered, rose refl, takes-after seen.told_before mid seen.told_after c.octets t.0 c.took t.1.0, t.2.within, t.1.1, begun flushed)
       encoded-fault (in_fault.BadLine number kind) n rose flushed =
-          let t = tells frame_line_at begun_text (HasLines sender) old new seen.told_before mid seen.told_after seen.held_before held pending seen.ended (Err (in_fault.BadLine number kind)) c n in
+          let t = tells frame_line_at (begun_text o) (HasLines sender) old new seen.told_before mid seen.told_after seen.held_before held pending seen.ended (Err (in_fault.BadLine number kind)) c n in
           (c.octets ++ t.0, c.answered, t.1.0, refused frame_line_at seen mid c.octets t.0 c.answered kind c.took t.2.within t.1.1, begun flushed)
       encoded-fault in_fault.TooLong n rose flushed =
-          let t = tells frame_line_at begun_text (HasLines sender) old new seen.told_before mid seen.told_after seen.held_before held pending seen.ended (Err in_fault.TooLong) c n in
+          let t = tells frame_line_at (begun_text o) (HasLines sender) old new seen.told_before mid seen.told_after seen.held_before held pending seen.ended (Err in_fault.TooLong) c n in
           (c.octets ++ t.0, c.answered, took-more seen mid c.octets t.0 c.took t.1.0, t.1.1, t.1.2, begun flushed)
 
       -- a column of the line brings the debt above its limit
@@ -205,7 +210,7 @@ module _ (o : EncodeOptions) where
             → ((cs : List Column) → HasPut sender o cs seen.held_before held pending → LineHalts o cs own_columns seen.held_before held_end pending_end why)
             → Stays held_end pending_end seen.held_after [] → Encoded o seen (TooTight number)
         encoded-tight number held_end pending_end why is counts halts flushed =
-            let t = tells frame_line_at begun_text (HasLines sender) old new seen.told_before mid seen.told_after seen.held_before held pending seen.ended (Ok (Some line)) c n in
+            let t = tells frame_line_at (begun_text o) (HasLines sender) old new seen.told_before mid seen.told_after seen.held_before held pending seen.ended (Ok (Some line)) c n in
             let halted = subst (LineHalts o (columns_of_lines c.answered) own_columns seen.held_before held_end pending_end) is (halts (columns_of_lines c.answered) put-so-far) in (
               c.octets ++ t.0,
               c.answered,
@@ -222,11 +227,11 @@ module _ (o : EncodeOptions) where
             )
 
         -- its columns end early, since a write failed
-        frame-failed : WriteFailed seen → HasWaited o seen → (own left : List Column) → own_columns ≡ own ++ left
+        frame-failed : WriteFailed seen → HasWaited o seen → KeptUp frame_line_at (begun_text o) seen → (own left : List Column) → own_columns ≡ own ++ left
             → HasLegalGaps o.period (columns_of_lines c.answered ++ own)
             → AppendsFront seen.held_before seen.held_after (begun_octets o (columns_of_lines c.answered ++ own)) → Encoded o seen WriteFault
-        frame-failed rose waits own left parts legal front =
-            let t = tells frame_line_at begun_text (HasLines sender) old new seen.told_before mid seen.told_after seen.held_before held pending seen.ended (Ok (Some line)) c n in (
+        frame-failed rose waits kept own left parts legal front =
+            let t = tells frame_line_at (begun_text o) (HasLines sender) old new seen.told_before mid seen.told_after seen.held_before held pending seen.ended (Ok (Some line)) c n in (
               c.octets ++ t.0,
               c.answered ++ line ∷ [],
               rose,
@@ -243,56 +248,67 @@ module _ (o : EncodeOptions) where
                 legal,
                 front,
               ),
+              kept,
             )
 
         pub encoded-frame-failed : (pending_end : List ℕ) (why : Halt) → why ≡ halt.Failed → WriteFailed seen → HasWaited o seen
             → ((cs : List Column) → HasPut sender o cs seen.held_before held pending → LineHalts o cs own_columns seen.held_before seen.held_after pending_end why)
-            → Encoded o seen WriteFault
-        encoded-frame-failed pending_end why is rose waits halts =
+            → IsAsked held → StaysInFront held seen.held_after → Encoded o seen WriteFault
+        encoded-frame-failed pending_end why is rose waits halts asked stays =
             let halted = subst (LineHalts o (columns_of_lines c.answered) own_columns seen.held_before seen.held_after pending_end) is (halts (columns_of_lines c.answered) put-so-far) in
-            frame-failed rose waits halted.0 halted.1 halted.2 halted.3 halted.4
+            frame-failed rose waits (up held asked stays) halted.0 halted.1 halted.2 halted.3 halted.4
 
         pub encoded-tight-failed : (held_end : Option (List ℕ)) (pending_end : List ℕ) (why : Halt) → why ≡ halt.TooTight → WriteFailed seen
             → ((text : List ℕ) → Wrote seen.held_before held_end text pending_end → HasWaited o seen)
             → ((cs : List Column) → HasPut sender o cs seen.held_before held pending → LineHalts o cs own_columns seen.held_before held_end pending_end why)
-            → BreaksOffBefore held_end pending_end seen.held_after → Encoded o seen WriteFault
-        encoded-tight-failed held_end pending_end why is rose waits halts failed =
+            → BreaksOffBefore held_end pending_end seen.held_after → IsAsked held → StaysInFront held held_end → StaysInFront held_end seen.held_after
+            → Encoded o seen WriteFault
+        encoded-tight-failed held_end pending_end why is rose waits halts failed asked stays later =
             let halted = subst (LineHalts o (columns_of_lines c.answered) own_columns seen.held_before held_end pending_end) is (halts (columns_of_lines c.answered) put-so-far) in
             let tight = halted.1 in
             let text = begun_octets o (columns_of_lines c.answered ++ halted.0) in
-            frame-failed rose (waits text halted.2) halted.0 (tight.column ∷ tight.rest) tight.parts tight.legal (failed seen.held_before text halted.2)
+            let asked_end = asked-stays frame_line_at (begun_text o) seen.told_before seen.told_after seen.held_before held held_end text pending_end asked stays halted.2 in
+            frame-failed rose (waits text halted.2) (up held_end asked_end later) halted.0 (tight.column ∷ tight.rest) tight.parts tight.legal (failed seen.held_before text halted.2)
 
       -- a write failed behind the lines
       behind : (octets rest : List ℕ) → WriteFailed seen → HasWaited o seen → TakesWhereTold seen.told_before seen.told_after octets → length octets ≤ 2 ^ 40
           → Begins frame_line_at octets c.answered rest → IsNear frame_line_at rest
-          → AppendsFront seen.held_before seen.held_after (begun_text c.answered) → Encoded o seen WriteFault
-      behind octets rest rose waits took within begins near front =
-          (octets, c.answered, rose, waits, inl (rest, took, within, begins, near, columns_of_lines c.answered, [], sym (append-nil (columns_of_lines c.answered)), put-so-far.legal, front))
+          → AppendsFront seen.held_before seen.held_after (begun_text o c.answered) → KeptUp frame_line_at (begun_text o) seen → Encoded o seen WriteFault
+      behind octets rest rose waits took within begins near front kept = (
+        octets,
+        c.answered,
+        rose,
+        waits,
+        inl (rest, took, within, begins, near, columns_of_lines c.answered, [], sym (append-nil (columns_of_lines c.answered)), put-so-far.legal, front),
+        kept,
+      )
 
       pub encoded-end-failed : Nexts frame_line_at old new mid seen.told_after seen.ended (Ok None) → WriteFailed seen → HasWaited o seen
-          → ((cs : List Column) → HasPut sender o cs seen.held_before held pending → AppendsFront seen.held_before seen.held_after (sent_octets o cs)) → Encoded o seen WriteFault
-      encoded-end-failed n rose waits failed =
-          let t = tells frame_line_at begun_text (HasLines sender) old new seen.told_before mid seen.told_after seen.held_before held pending seen.ended (Ok None) c n in (
+          → ((cs : List Column) → HasPut sender o cs seen.held_before held pending → AppendsFront seen.held_before seen.held_after (sent_octets o cs))
+          → IsAsked held → StaysInFront held seen.held_after → Encoded o seen WriteFault
+      encoded-end-failed n rose waits failed asked stays =
+          let t = tells frame_line_at (begun_text o) (HasLines sender) old new seen.told_before mid seen.told_after seen.held_before held pending seen.ended (Ok None) c n in (
             c.octets ++ t.0,
             c.answered,
             rose,
             waits,
             inr (took-all seen mid c.octets t.0 c.took t.1.0, t.1.1, t.1.2, put-so-far.legal, failed (columns_of_lines c.answered) put-so-far),
+            up held asked stays,
           )
 
       pub encoded-fault-failed : (fault : InFault) → Nexts frame_line_at old new mid seen.told_after seen.ended (Err fault) → WriteFailed seen → HasWaited o seen
-          → BreaksOffBefore held pending seen.held_after → Encoded o seen WriteFault
-      encoded-fault-failed fault n rose waits failed =
-          let t = tells frame_line_at begun_text (HasLines sender) old new seen.told_before mid seen.told_after seen.held_before held pending seen.ended (Err fault) c n in
+          → BreaksOffBefore held pending seen.held_after → IsAsked held → StaysInFront held seen.held_after → Encoded o seen WriteFault
+      encoded-fault-failed fault n rose waits failed asked stays =
+          let t = tells frame_line_at (begun_text o) (HasLines sender) old new seen.told_before mid seen.told_after seen.held_before held pending seen.ended (Err fault) c n in
           let after = behind-fault frame_line_at (reading c.octets c.answered) t.0 mid seen.told_after seen.ended fault t.1 in
           behind (c.octets ++ t.0) after.0 rose waits (takes-after seen.told_before mid seen.told_after c.octets t.0 c.took after.1) t.2.within after.2 after.3
-          (failed seen.held_before (begun_text c.answered) c.wrote)
+          (failed seen.held_before (begun_text o c.answered) c.wrote) (up held asked stays)
 
     -- before the next line is read
     pub encoded-failed : (sender : State) (seen : Seen) (held : Option (List ℕ)) (pending : List ℕ) (lines : ReaderState P)
         → (c : SoFar sender lines seen.told_before seen.told_after seen.held_before held pending) → WriteFailed seen → HasWaited o seen
-        → BreaksOffBefore held pending seen.held_after → Encoded o seen WriteFault
-    encoded-failed sender seen held pending lines c rose waits failed = (
+        → BreaksOffBefore held pending seen.held_after → StaysInFront held seen.held_after → Encoded o seen WriteFault
+    encoded-failed sender seen held pending lines c rose waits failed stays = (
       c.octets,
       c.answered,
       rose,
@@ -307,8 +323,9 @@ module _ (o : EncodeOptions) where
         [],
         sym (append-nil (columns_of_lines c.answered)),
         (so-far sender seen.told_before seen.told_after seen.held_before held pending lines c).legal,
-        failed seen.held_before (begun_text c.answered) c.wrote,
+        failed seen.held_before (begun_text o c.answered) c.wrote,
       ),
+      kept-up frame_line_at (begun_text o) seen held c.asked stays,
     )
 
   -- an earlier count of the writes that failed
@@ -334,7 +351,7 @@ module _ (o : EncodeOptions) where
     earlier : (outcome : Outcome) → Encoded o seen outcome → Encoded o earlier_seen outcome
     earlier Done e = (e.0, e.1, all-taken e.0 e.2, e.3, e.4, e.5, e.6)
     earlier ReadFault e = (e.0, e.1, e.2, e.3, e.4, e.5, has-begun (columns_of_lines e.1) e.6)
-    earlier WriteFault e = (e.0, e.1, omega (arith, few, e.2), e.3, broke-off e.0 e.1 e.4)
+    earlier WriteFault e = (e.0, e.1, omega (arith, few, e.2), e.3, broke-off e.0 e.1 e.4, e.5)
     earlier (BadLine number kind) e = (e.0, e.1, e.2, is-refused e.0 e.1 kind e.3, has-begun (columns_of_lines e.1) e.4)
     earlier (TooTight frame) e = e
     earlier TooLong e = (e.0, e.1, e.2, e.3, e.4, has-begun (columns_of_lines e.1) e.5)
@@ -364,6 +381,7 @@ module _ (o : EncodeOptions) where
       legal_gaps-nil o.period,
       front,
     ),
+    inl same,
   )
     where
       unread : (before after : Option (List ℕ)) → IfSome before (λ b. IfSome after (λ a. length a < length b + length (begun_octets o []) → seen.told_after ≡ seen.told_before))

@@ -204,7 +204,7 @@ module _ (text : BeatsText) (before : List ℕ) (limit : ℕ) (header : Header) 
   unfolding took
   written-before Done d = (d.0, took-all d.0 0 d.1, d.2, d.3)
   written-before ReadFault d = (d.0, d.1, d.2, took d.0 d.1 d.3, d.4, d.5)
-  written-before WriteFault d = (d.0, rose-after seen.writes_before mid seen.writes_after later d.1, broke-off d.0 d.2)
+  written-before WriteFault d = (d.0, rose-after seen.writes_before mid seen.writes_after later d.1, broke-off d.0 d.2, d.3)
   written-before (Cut rest) d = (d.0, d.1, took-all d.0 rest d.2, d.3)
   written-before NotAligned d = (d.0, took-all d.0 0 d.1, d.2, d.3)
   written-before TooLong d = (d.0, d.1, took d.0 d.1 d.2, d.3, d.4)

@@ -7,7 +7,7 @@ use Rattle.pcs_io.specs.Grammars.{Begins, AreLines, EndOpen, IsNear}
 use Rattle.pcs_io.specs.FrameLines.{FrameLine, frame_line_at}
 use Rattle.pcs_io.specs.declared.source.Failed.{Failed}
 use Rattle.pcs_drive.specs.Seen.{Seen, Took, TookAll, Written, ReadFailed, WriteFailed}
-use Rattle.pcs_drive.specs.LineCommand.{IsRefused}
+use Rattle.pcs_drive.specs.LineCommand.{IsRefused, KeptUp}
 use Rattle.pcs_top.specs.Captures.{begun_octets, sent_octets}
 use Rattle.pcs_top.specs.LineColumns.{columns_of_line, columns_of_lines}
 use Rattle.pcs_words.specs.declared.command.EncodeOptions.{EncodeOptions}
@@ -32,6 +32,10 @@ abbrev pub HasWaited : EncodeOptions → Seen → Type 0
 HasWaited options seen = IfSome seen.held_before (λ before. IfSome seen.held_after (λ after.
     length after < length before + length (begun_octets options []) → seen.told_after ≡ seen.told_before))
 
+-- what lines have begun: the header, the lead and the whole pairs of their columns
+abbrev pub begun_text : EncodeOptions → List FrameLine → List ℕ
+begun_text options lines = begun_octets options (columns_of_lines lines)
+
 -- A write failed: a front is written of what a front of the columns had begun, or of the whole transmission where the input has ended.
 abbrev pub BrokeOff : EncodeOptions → Seen → List ℕ → List FrameLine → Type 0
 BrokeOff options seen octets lines =
@@ -52,6 +56,7 @@ Encoded options seen ReadFault =
     × HasBegun options seen (columns_of_lines lines)
 Encoded options seen WriteFault =
     (octets : List ℕ) × (lines : List FrameLine) × WriteFailed seen × HasWaited options seen × BrokeOff options seen octets lines
+    × KeptUp frame_line_at (begun_text options) seen
 Encoded options seen (BadLine number kind) =
     (octets : List ℕ) × (lines : List FrameLine) × (number ≡ length lines + 1) × IsRefused frame_line_at seen octets lines kind
     × HasBegun options seen (columns_of_lines lines)

@@ -49,6 +49,7 @@ impl LineTask<FrameParser> for Blocking {
     ghost use Rattle.std.specs.Prelude.{⊤};
     ghost use Rattle.pcs_drive.specs.LineTasks.{by_lines};
     ghost use Rattle.pcs_io.specs.FrameStages.{FrameParserState};
+    ghost use Rattle.pcs_io.specs.LineEnds.{frame_lines_end};
     ghost use Rattle.pcs_top.specs.Texts.{block_text};
 
     ghost text = { by_lines (λ (parser : FrameParserState). parser.line) block_text };
@@ -63,6 +64,8 @@ impl LineTask<FrameParser> for Blocking {
     ) -> Result<(), Failed> {
         put_line(output, sink, parser.line())
     }
+
+    ghost ends = { frame_lines_end };
 }
 
 // Puts the block lines of a line's columns.

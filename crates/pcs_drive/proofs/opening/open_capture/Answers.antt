@@ -7,7 +7,7 @@ use Rattle.pcs_drive.proofs.opening.open_capture.Goals as goal
 pub returns-in-Ok-header-clause-ok : goal.returns-in-Ok-header-clause-ok
 returns-in-Ok-header-clause-ok g c =
     let told = c.in-Ok-header.ensures.answers (opened (2 ^ 40)) c.in-Ok.ensures.stands in
-    header-opened c.header.new.self c.in-Ok-header.header _ _ (g.R.Source.ended c.header.new.source) told.0 told.1 told.2
+    header-opened c.header.new.self c.in-Ok-header.header _ _ (g.R.Source.ended c.header.new.source) told.0 told.1 told.2 (c.in-Ok-header.ensures.asks (opened (2 ^ 40)) c.in-Ok.ensures.stands)
     c.in-Ok-header.ensures.front c.in-Ok-header.ensures.ahead c.in-Ok-header.ensures.waits
 
 pub returns-in-Err-clause-err : goal.returns-in-Err-clause-err

@@ -7,7 +7,7 @@ use Rattle.pcs_drive.proofs.opening.open_levels.Goals as goal
 pub returns-in-Ok-levels_header-clause-ok : goal.returns-in-Ok-levels_header-clause-ok
 returns-in-Ok-levels_header-clause-ok g c =
     let told = c.in-Ok-levels_header.ensures.answers (opened (2 ^ 40)) c.in-Ok.ensures.stands in
-    levels-opened c.levels_header.new.self c.in-Ok-levels_header.header _ _ (g.R.Source.ended c.levels_header.new.source) told.0 told.1 told.2
+    levels-opened c.levels_header.new.self c.in-Ok-levels_header.header _ _ (g.R.Source.ended c.levels_header.new.source) told.0 told.1 told.2 (c.in-Ok-levels_header.ensures.asks (opened (2 ^ 40)) c.in-Ok.ensures.stands)
     c.in-Ok-levels_header.ensures.front c.in-Ok-levels_header.ensures.ahead c.in-Ok-levels_header.ensures.waits
 
 pub returns-in-Err-levels_header-clause-err : goal.returns-in-Err-levels_header-clause-err

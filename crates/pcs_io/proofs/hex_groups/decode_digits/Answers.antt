@@ -1,4 +1,4 @@
-use Rattle.std.proofs.Common.{◌≡◌, ℕ, ◌+◌, ◌-◌, ◌*◌, ◌/◌, length, take, drop, length-take, length-drop, length-append, arith, ap, sym, refl, ◌∙◌, Ok, subst}
+use Rattle.std.proofs.Common.{◌≡◌, ℕ, ◌+◌, ◌-◌, ◌*◌, ◌/◌, length, take, drop, arith, ap, sym, ◌∙◌, Ok, subst}
 use Rattle.std.proofs.lemmas.List.{take_rest}
 use Rattle.hex.specs.Hex.{decode_pairs}
 use Rattle.std.proofs.lemmas.Slice.{take-put_mid}

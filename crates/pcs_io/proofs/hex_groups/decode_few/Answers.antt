@@ -1,4 +1,4 @@
-use Rattle.std.proofs.Common.{◌≡◌, ℕ, ◌++◌, ◌*◌, length, take, drop, length-take, length-drop, length-append, replicate, List, arith, ap, sym, refl, ◌∙◌, Ok}
+use Rattle.std.proofs.Common.{ℕ, ◌++◌, length, take, drop, length-drop, length-append, replicate, List, arith, ap, sym, ◌∙◌, Ok}
 use Rattle.std.proofs.lemmas.List.{length-replicate}
 use Rattle.uuid.specs.Text.{parsed}
 use Rattle.pcs_io.proofs.DigitGroups.{few-decode}

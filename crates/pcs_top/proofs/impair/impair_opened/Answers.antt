@@ -41,4 +41,5 @@ returns g c = λ h items has each stands.
         subst (λ o. Opens o header [] has.begins.0) (sym (append-nil h.octets)) has.begins.1,
         breaks-ready (impairing items header) header [] start _ [] items given each refl come front,
       ),
+      inl refl,
     )
