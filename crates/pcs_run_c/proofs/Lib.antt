@@ -1,0 +1,3 @@
+mod WordsLeft
+mod Unfailing
+mod Decoded
