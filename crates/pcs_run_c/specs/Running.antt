@@ -21,7 +21,7 @@ four_watchers = totals ∷ worst ∷ lanes ∷ clean ∷ []
 pub record HasRun (told : List Watched) (words : List (List ℕ)) (input text line : List ℕ) (status : Status) : Type 0 where
   pub seen : Seen
   pub heard : Heard
-  pub given : seen.told_before ≡ record { given = []; left = Some input }
+  pub given : seen.told_before ≡ record { given = []; earlier = []; left = Some input }
   pub tells : IsSome seen.told_after.left
   pub reads : ¬ ReadFailed seen
   pub text_before : seen.held_before ≡ Some []
