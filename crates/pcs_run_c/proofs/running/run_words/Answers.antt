@@ -18,8 +18,8 @@ returns g c =
     let notes = c.in_ok-notes.notes in
     of-these _ four_watchers _ _ _ _ _ c.requires (record {
       seen = record {
-        told_before = record { given = before.given; left = Some before.left };
-        told_after = record { given = new.source.given; left = Some new.source.left };
+        told_before = record { given = before.given; earlier = before.earlier; left = Some before.left };
+        told_after = record { given = new.source.given; earlier = new.source.earlier; left = Some new.source.left };
         ended = new.source.ended;
         reads_before = 0;
         reads_after = 0;
@@ -29,7 +29,9 @@ returns g c =
         writes_after = new.sink.faults;
       };
       heard = record { held_before = Some notes.held; held_after = Some new.notes.held; writes_before = notes.faults; writes_after = new.notes.faults };
-      given = ap (λ s. record { given = s.given; left = Some s.left }) c.new-source.ensures ∙ ap (λ octets. record { given = []; left = Some octets }) (search rules);
+      given =
+          ap (λ s. record { given = s.given; earlier = s.earlier; left = Some s.left }) c.new-source.ensures
+          ∙ ap (λ octets. record { given = []; earlier = []; left = Some octets }) (search rules);
       tells = refl;
       reads = λ rose. absurd (omega (arith, rose));
       text_before = ap (λ s. Some s.held) c.in_ok-sink.ensures;
