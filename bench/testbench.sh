@@ -1,17 +1,19 @@
 #!/bin/bash
-# Builds pcs_c, the library for testbenches, and the examples of examples/testbench over it, and runs
-# them; then with a bug planted in the RTL, which has to be found. A part whose tools are missing is left
-# out by name.
+# Builds pcs_c and pcs_run_c, the libraries for testbenches, and the examples of examples/testbench over
+# them, and runs them; then with a bug planted in the RTL, which has to be found. A part whose tools are
+# missing is left out by name.
 #
-#     bench/testbench.sh [PROGRAM] [LIBRARY]
+#     bench/testbench.sh [PROGRAM] [LIBRARY] [RUN_LIBRARY]
 #
-# PROGRAM is the built program, for the example behind pipes and the picture of a capture; LIBRARY is
-# libpcs_c.a, which is built by `rt lib` where it isn't there. ROUNDS is how many inputs of each kind
-# are compared under Verilator.
+# PROGRAM is the built program, for the whole program over memory, the example behind pipes and the picture
+# of a capture; LIBRARY is libpcs_c.a and RUN_LIBRARY libpcs_run_c.a, which are built by `rt lib` where they
+# aren't there. ROUNDS is how many inputs of each kind are compared under Verilator.
 set -u
 top=$(cd "$(dirname "$0")/.." && pwd) || exit 1
 program=${1:-$top/crates/pcs_cli/out/pcs_cli}
 library=${2:-$top/crates/pcs_c/out/libpcs_c.a}
+run_library=${3:-$top/crates/pcs_run_c/out/libpcs_run_c.a}
+flags=(-O2 -Wall -Wextra -Werror -pedantic -I "$top/include")
 rounds=${ROUNDS:-1000}
 examples=$top/examples/testbench
 work=$(mktemp -d)
@@ -60,15 +62,16 @@ finds() {
     tell "$name" log $?
 }
 
-if [ ! -e "$library" ]; then
-    needs "the library" rt || exit 1
-    (cd "$top/crates/pcs_c" && rt lib) > "$work/log" 2>&1
-    tell "the library" log $?
-    [ -e "$library" ] || exit 1
-fi
+# make_library CRATE LIBRARY: builds a library where it isn't there.
+make_library() {
+    [ -e "$2" ] && return
+    needs "the library of $1" rt || return 1
+    (cd "$top/crates/$1" && rt lib) > "$work/log" 2>&1
+    tell "the library of $1" log $?
+    [ -e "$2" ]
+}
 
 in_c() {
-    local flags=(-O2 -Wall -Wextra -Werror -pedantic -I "$top/include")
     run "C, built" cc -std=c11 "${flags[@]}" "$examples/example.c" "$library" -o "$work/example"
     run "C" "$work/example"
     if needs "the header in C++" c++; then
@@ -138,10 +141,31 @@ with_program() {
     run "a waveform, read back" python3 "$top/bench/read_vcd.py" "$work/capture" "$work/report" "$work/waves.vcd"
 }
 
+# The whole program over memory; the kit's liblibc_c.a calls malloc for it.
+whole_program() {
+    local memory leaks=(valgrind -q --leak-check=full --error-exitcode=1)
+    memory=$(dirname "$(dirname "$(readlink -f "$(command -v rt)")")")/c/liblibc_c.a
+    make_library pcs_run_c "$run_library" || return
+    run "the whole program in C, built" cc -std=c11 "${flags[@]}" "$examples/run.c" "$run_library" "$memory" -o "$work/run"
+    run "the whole program in C" "$work/run"
+    ! needs "all memory given back" valgrind || run "all memory given back" "${leaks[@]}" "$work/run"
+    if needs "its header in C++" c++; then
+        printf '#include "pcs_run.h"\nint main() { uint8_t line[64]; size_t n; return pcs_run(line, 0, line, 0, line, 0, &n, line, &n) != PCS_USAGE; }\n' \
+            > "$work/run_header.cpp"
+        run "its header in C++, built" c++ -std=c++17 "${flags[@]}" "$work/run_header.cpp" "$run_library" "$memory" -o "$work/run_header"
+        run "its header in C++" "$work/run_header"
+    fi
+    run "the whole program in Python, built" cc -shared -o "$work/libpcs_run_c.so" -Wl,--whole-archive "$run_library" -Wl,--no-whole-archive "$memory"
+    run "the whole program, ten commands as the program" env PCS_RUN_LIBRARY="$work/libpcs_run_c.so" \
+        python3 "$examples/pcs_run.py" "$program" "$top/examples/frames.txt"
+}
+
+make_library pcs_c "$library" || exit 1
 ! needs "C" cc || in_c
 ! needs "Python" cc python3 || in_python
 ! needs "Verilator" verilator make c++ || in_verilator
 ! needs "Icarus" cc iverilog vvp || in_icarus
+! needs "the whole program" rt cc python3 "$program" || whole_program
 ! needs "the program" "$program" python3 || with_program
 echo "$passed passed, $failed failed, $left_out left out"
 [ "$failed" = 0 ]
