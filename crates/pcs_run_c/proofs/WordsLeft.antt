@@ -1,5 +1,6 @@
 -- The words that an iterator over a text still has.
-use Rattle.std.proofs.Common.{◌≡◌, ℕ, ◌<◌, ◌==◌, Bool, true, false, List, [], ◌∷◌, ◌++◌, length, take, drop, Option, Some, None, MatchOption, Bor, if◌then◌else◌, refl, sym, ap, subst, ◌∙◌, arith, lit<, take-append-drop}
+use Rattle.std.proofs.Common.{◌≡◌, ℕ, ◌<◌, ◌==◌, Bool, true, false, List, [], ◌∷◌, ◌++◌, length, take, drop, Option, Some, None, MatchOption}
+use Rattle.std.proofs.Common.{Bor, if◌then◌else◌, refl, sym, ap, subst, ◌∙◌, arith, lit<, take-append-drop}
 use Rattle.std.proofs.lemmas.Bool.{false≢true}
 use Rattle.std.proofs.lemmas.List.{nil_from_length}
 use Rattle.std.specs.declared.str.SplitTerminator.{SplitTerminator}
@@ -45,7 +46,8 @@ words_of_text text = ended (slice_split is_zero text)
 abbrev pub words_left : SplitTerminator ℕ → List (List ℕ)
 words_left s = if split_has_more (split_terminator_parts s) then words_of_text (split_text (split_terminator_parts s)) else []
 
-of_parts : (x rest : List ℕ) (more : Bool) → (length x ≡ 0 → more ≡ true) → ended (x ∷ (if more then slice_split is_zero rest else [])) ≡ x ∷ (if more then words_of_text rest else [])
+of_parts : (x rest : List ℕ) (more : Bool) → (length x ≡ 0 → more ≡ true)
+    → ended (x ∷ (if more then slice_split is_zero rest else [])) ≡ x ∷ (if more then words_of_text rest else [])
 of_parts x rest true some = ended-cons x (slice_split is_zero rest) (omega (arith, length-slice_split is_zero rest))
 of_parts x rest false some = ended-last x some
 

@@ -1,5 +1,5 @@
 -- What a run over memory leaves behind.
-use Rattle.std.specs.Prelude.{◌≡◌, ◌⊎◌, ℕ, List, [], ◌∷◌, take, IsSome, Some}
+use Rattle.std.specs.Prelude.{◌≡◌, ◌⊎◌, ℕ, ◌<◌, List, [], ◌∷◌, length, take, IsSome, Some}
 use Rattle.pcs_watch.specs.Watching.{Seen as Watched}
 use Rattle.pcs_watch.specs.Tallies.{totals, worst, lanes, clean}
 use Rattle.pcs_words.specs.Commands.{command_of}
@@ -37,11 +37,11 @@ pub record HasRun (told : List Watched) (words : List (List ℕ)) (input text li
 abbrev pub AnswersAll : List ℕ → List ℕ → List ℕ → List ℕ → ℕ → Type 0
 AnswersAll words input text line number = (status : Status) × HasRun four_watchers (words_in words) input text line status × (number ≡ number_of status)
 
--- or of each what there is room for, where there is none for all
+-- or of each what there is room for, where one of them has no room
 abbrev pub AnswersFront : List ℕ → List ℕ → ℕ → List ℕ → List ℕ → ℕ → Type 0
 AnswersFront words input room text line number =
     (all whole : List ℕ) × (status : Status) × HasRun four_watchers (words_in words) input all whole status
-    × (text ≡ take room all) × (line ≡ take 64 whole) × (number ≡ number_of WriteFault)
+    × (text ≡ take room all) × (line ≡ take 64 whole) × (number ≡ number_of WriteFault) × ((room < length all) ⊎ (64 < length whole))
 
 -- or nothing, where there was no memory
 abbrev pub Answers : List ℕ → List ℕ → ℕ → List ℕ → List ℕ → ℕ → Type 0

@@ -7,9 +7,12 @@ use Rattle.std.proofs.lemmas.Str.{is_utf8-from_IsUtf8, IsUtf8-from_is_utf8}
 use Rattle.pcs_run_c.specs.Words.{ended, words_in}
 use Rattle.pcs_run_c.proofs.words.words_of.Goals as goal
 
+abbrev named_words : List ℕ → List (List ℕ)
+named_words text = codes "pcs" ∷ ended (slice_split (λ octet. octet == 0) text)
+
 -- words of what is UTF-8, and of what isn't
-of_text : (octets text : List ℕ) → text ≡ octets → is_utf8 octets ≡ true → codes "pcs" ∷ ended (slice_split (λ octet. octet == 0) text) ≡ words_in octets
-of_text octets text same good = ap (λ os. codes "pcs" ∷ ended (slice_split (λ octet. octet == 0) os)) same ∙ ap (λ b. if b then codes "pcs" ∷ ended (slice_split (λ octet. octet == 0) octets) else []) (sym good)
+of_text : (octets text : List ℕ) → text ≡ octets → is_utf8 octets ≡ true → named_words text ≡ words_in octets
+of_text octets text same good = ap named_words same ∙ ap (λ b. if b then named_words octets else []) (sym good)
 
 of_no_text : (octets : List ℕ) → (is_utf8 octets ≡ true → ⊥) → [] ≡ words_in octets
 of_no_text octets bad = grind (arith, common_steps)
