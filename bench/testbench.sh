@@ -150,8 +150,10 @@ whole_program() {
     run "the whole program in C" "$work/run"
     ! needs "all memory given back" valgrind || run "all memory given back" "${leaks[@]}" "$work/run"
     if needs "its header in C++" c++; then
-        printf '#include "pcs_run.h"\nint main() { uint8_t line[64]; size_t n; return pcs_run(line, 0, line, 0, line, 0, &n, line, &n) != PCS_USAGE; }\n' \
-            > "$work/run_header.cpp"
+        {
+            printf '#include "pcs_run.h"\nint main() { uint8_t none[1] = {}, output[1], line[64]; size_t written, noted;\n'
+            printf 'return pcs_run(none, 0, none, 0, output, 1, &written, line, &noted) != PCS_USAGE; }\n'
+        } > "$work/run_header.cpp"
         run "its header in C++, built" c++ -std=c++17 "${flags[@]}" "$work/run_header.cpp" "$run_library" "$memory" -o "$work/run_header"
         run "its header in C++" "$work/run_header"
     fi

@@ -26,8 +26,8 @@ extern "C" {
  *
  * PCS_NO_ROOM is the status of a failed write: `output`, which has `room` octets, has none for all that
  * the program writes. A front of it is there; call again with more. PCS_NO_MEMORY means that malloc had
- * none; then what is there is a front too, or nothing. A call takes memory for the input once more, for
- * `room` octets and for what the program itself needs, and gives all of it back before it returns. */
+ * none; there is no text then. A call takes memory for the input once more, for `room` octets and for
+ * what the program itself needs, and gives all of it back before it returns. */
 uint8_t pcs_run(const uint8_t *words, size_t words_count, const uint8_t *input, size_t input_count,
                 uint8_t *output, size_t room, size_t *written, uint8_t line[64], size_t *noted);
 
